@@ -1,0 +1,7 @@
+-- Laws that name no net: tests, counting, the least of a range, iteration, page lists and marks.
+pub mod Tests
+pub mod Iterate
+pub mod Least
+pub mod Count
+pub mod Lists
+pub mod Marks

@@ -1,0 +1,92 @@
+-- Beliefs from the course, on the course map M7 of document 01: each is refuted by computing the searches, or a
+-- variant that follows the belief.
+use mathlib.Core.Path.{_≡_, refl}
+use mathlib.Core.List.{List, [], _∷_, Sublistᴰ, Sublistᴰ·slnil, Sublistᴰ·cons, Sublistᴰ·cons-cons}
+use mathlib.Core.Bool.{Bool, false, not, _||_}
+use Prim.Native.Nat.{ℕ, _+_}
+use lib.ListN.{getD, take}
+use lib.Dec.{eqb}
+use Rattle.net.specs.Net.{Move, Page, good, Frame, one}
+use Rattle.net.specs.Search.{State, pick, timeOf, predOf, isFresh, withTables, settle, markFresh, start, least}
+use Rattle.net.specs.Search.{choose}
+use Rattle.net.specs.Search.{chooseOn, onChoice, iter, readFor, relax, relaxAll, visit, workTurn, workThrough}
+use Rattle.net.specs.Search.{dfVisit, noneOrLess, stepBy, searchBy, dfSearch}
+use Rattle.net.proofs.Laws.{afterDf}
+
+abbrev to : ℕ → ℕ → Move
+to v w = record { target = v; weight = w }
+
+abbrev m7 : Frame
+m7 = record { size = 7; pageOf = λ v. getD (0 ∷ 0 ∷ 0 ∷ 0 ∷ 1 ∷ 1 ∷ 1 ∷ []) v 0; none = 4294967295 }
+
+abbrev m7-moves : List (List Move)
+m7-moves = (to 1 4 ∷ to 4 2 ∷ []) ∷ (to 2 3 ∷ []) ∷ (to 3 3 ∷ []) ∷ (to 5 3 ∷ []) ∷ (to 2 1 ∷ to 5 6 ∷ []) ∷
+    (to 6 1 ∷ []) ∷ [] ∷ []
+
+abbrev m7-page : ℕ → Page
+m7-page p = good (λ u. getD m7-moves u [])
+
+-- "Worked through is final": station 2 has time 7 after the first step, which works page 0 through, and 3 at the end.
+pub worked-through-is-not-final :
+    (timeOf m7 (afterDf m7 m7-page 0 1) 2 ≡ 7) × (timeOf m7 (dfSearch m7 m7-page 0) 2 ≡ 3)
+unfolding iter least relax relaxAll visit choose chooseOn workTurn workThrough readFor dfVisit stepBy searchBy
+    start dfSearch
+worked-through-is-not-final = (refl, refl)
+
+-- The DF search in which a lowered station stays fresh: relaxing leaves the marks as they were.
+module _ (F : Frame) (page : ℕ → Page) where
+  abbrev visitStaying : (ℕ → List Move) → ℕ → State → State
+  visitStaying moves u s =
+      let t = visit F (noneOrLess F) moves u s in
+      withTables (t .times) (t .preds) ((markFresh u s) .marks) t
+
+  abbrev turnStaying : ℕ → (ℕ → List Move) → State → State
+  turnStaying p moves s = onChoice (visitStaying moves) (chooseOn F p s) s
+
+  abbrev dfVisitStaying : ℕ → State → State
+  dfVisitStaying u s = pick (isFresh s u) (settle u s)
+      (readFor F page u (λ moves t. iter (turnStaying (F .pageOf u) moves) (F .size) (visitStaying moves u t)) s)
+
+-- "A lowered station may stay fresh": then station 3 keeps 10, though a walk of 6 leads there.
+pub lowered-must-not-stay-fresh :
+    (timeOf m7 (searchBy m7 (dfVisitStaying m7 m7-page) 0) 3 ≡ 10) × (timeOf m7 (dfSearch m7 m7-page 0) 3 ≡ 6)
+unfolding iter least relax relaxAll visit choose chooseOn workTurn workThrough readFor dfVisit stepBy searchBy
+    start dfSearch
+lowered-must-not-stay-fresh = (refl, refl)
+
+-- "The first predecessor found stays": on the course map C6 station 3 is reached through 2 first, then through 1 at
+-- the same time, and 1 it is.
+abbrev c6 : Frame
+c6 = record { size = 4; pageOf = λ v. 0; none = 4294967295 }
+
+abbrev c6-page : ℕ → Page
+c6-page p = good (λ u. getD ((to 1 6 ∷ to 2 5 ∷ []) ∷ (to 3 4 ∷ []) ∷ (to 3 5 ∷ []) ∷ [] ∷ []) u [])
+
+pub lowest-predecessor-counts : (timeOf c6 (dfSearch c6 c6-page 0) 3 ≡ 10) × (predOf (dfSearch c6 c6-page 0) 3 ≡ 1)
+unfolding iter least relax relaxAll visit choose chooseOn workTurn workThrough readFor dfVisit stepBy searchBy
+    start dfSearch
+lowest-predecessor-counts = (refl, refl)
+
+-- A store of a number of frames, least recently used out: the pages held, the latest first, and its reads of a list.
+abbrev holds : ℕ → List ℕ → Bool
+holds p [] = false
+holds p (q ∷ held) = eqb p q || holds p held
+
+abbrev without : ℕ → List ℕ → List ℕ
+without p [] = []
+without p (q ∷ held) = pick (eqb p q) held (q ∷ without p held)
+
+abbrev readsWith : ℕ → List ℕ → List ℕ → ℕ
+readsWith frames held [] = 0
+readsWith frames held (p ∷ list) = one (not (holds p held)) + readsWith frames (take frames (p ∷ without p held)) list
+
+-- "A part of a list reads less in any store": with two frames 0 1 0 2 0 takes 3 reads and its part 0 1 2 0 takes 4.
+pub part-may-read-more :
+    Sublistᴰ {A = ℕ} (0 ∷ 1 ∷ 2 ∷ 0 ∷ []) (0 ∷ 1 ∷ 0 ∷ 2 ∷ 0 ∷ []) × (readsWith 2 [] (0 ∷ 1 ∷ 0 ∷ 2 ∷ 0 ∷ []) ≡ 3)
+    × (readsWith 2 [] (0 ∷ 1 ∷ 2 ∷ 0 ∷ []) ≡ 4)
+part-may-read-more = (
+  Sublistᴰ·cons-cons refl (Sublistᴰ·cons-cons refl
+      (Sublistᴰ·cons (Sublistᴰ·cons-cons refl (Sublistᴰ·cons-cons refl Sublistᴰ·slnil)))),
+  refl,
+  refl,
+)

@@ -1,0 +1,245 @@
+-- The laws of both searches, for every net whose moves weigh at least 1 and lead to stations, and any source in it.
+-- Each is stated of the searches by the letter of document 01; the proofs are in the other files, for the one
+-- comparison, and are carried over here by the first laws.
+use mathlib.Core.Path.{_≡_, _∙_}
+use mathlib.Core.List.{List, [], _∷_, _++_, Sublistᴰ}
+use Prim.Native.Nat.{ℕ, _+_, _*_, _≤_, _<_}
+use native.Mathlib.Nat.{mul-le-mul}
+use native.Mathlib.Omega.{arith}
+use lib.ListN.{length}
+use lib.Dec.{ltb, eqb}
+use Rattle.net.specs.declared.Choice.the-variants.{Station, Nobody}
+use Rattle.net.specs.Net.{Move, Page, good, Frame, Goes, timesIn, entryStations, onePageReads, count}
+use Rattle.net.specs.Search.{State, going, refused, timeOf, predOf, isSettled, isFresh, settle, withPage, start}
+use Rattle.net.specs.Search.{reached}
+use Rattle.net.specs.Search.{choose, chooseOn, iter, visit, workTurn, workThrough, plainVisit, dfVisit}
+use Rattle.net.specs.Search.{noneOrLess}
+use Rattle.net.specs.Search.{stepBy, searchBy, plainSearch, dfSearch}
+use Rattle.net.specs.Demands.{LeastTimes, RefusedPage, ListOf, AgreeOn}
+use Rattle.net.proofs.Sound.{Sound}
+use Rattle.net.proofs.Basics.Count.{count-le}
+use Rattle.net.proofs.Basics.Lists.{part-reads}
+use Rattle.net.proofs.Relaxing.Relax.{Tables}
+use Rattle.net.proofs.Relaxing.Labels.{sum-below-none}
+use Rattle.net.proofs.Steps.Visits.{plain-settling, df-settling, visited-u}
+use Rattle.net.proofs.Steps.PageLoop.{Ready, stationsOn, loop-short, worked-through}
+use Rattle.net.proofs.Searches.Walks.{LeastCost}
+use Rattle.net.proofs.Searches.Start.{start-unsettled, start-stale}
+use Rattle.net.proofs.Searches.Run.{Reached, chosen-next, run-ends}
+use Rattle.net.proofs.Searches.Answer.{ended-least-times, least-times-fix}
+use Rattle.net.proofs.Searches.Together.{plain-reached, df-reached, Together, together, together-choose}
+use Rattle.net.proofs.Searches.Together.{chosen-least, chosen-rising}
+use Rattle.net.proofs.Searches.OneComparison.{plain-visit-one, df-visit-one, run-one}
+use Rattle.net.proofs.PageLists.Often.{often-entered}
+use Rattle.net.proofs.Local.{search-local, plain-visit-local, df-visit-local}
+
+-- The state of either search after n steps.
+module _ (F : Frame) (page : ℕ → Page) (source : ℕ) where
+  abbrev pub afterPlain : ℕ → State
+  afterPlain n = iter (stepBy F (plainVisit F (noneOrLess F) page)) n (start F source)
+
+  abbrev pub afterDf : ℕ → State
+  afterDf n = iter (stepBy F (dfVisit F (noneOrLess F) page)) n (start F source)
+
+module _ (F : Frame) (page : ℕ → Page) (source : ℕ) (ok : Sound F page source) where
+  abbrev plain : State
+  plain = plainSearch F page source
+
+  abbrev df : State
+  df = dfSearch F page source
+
+  abbrev plainAt : ℕ → State
+  plainAt = afterPlain F page source
+
+  abbrev dfAt : ℕ → State
+  dfAt = afterDf F page source
+
+  -- "v has no time, or sum is less" is the one comparison "sum is less": no sum that relaxing forms reaches none.
+  pub plain-steps-one-comparison : (n : ℕ) → plainAt n ≡ iter (stepBy F (plainVisit F ltb page)) n (start F source)
+  unfolding iter
+  plain-steps-one-comparison = run-one ok isSettled (plainVisit F ltb page) (plainVisit F (noneOrLess F) page)
+      (plain-settling ok) (plain-reached ok 0) (plain-visit-one ok)
+
+  pub df-steps-one-comparison : (n : ℕ) → dfAt n ≡ iter (stepBy F (dfVisit F ltb page)) n (start F source)
+  unfolding iter
+  df-steps-one-comparison = run-one ok isFresh (dfVisit F ltb page) (dfVisit F (noneOrLess F) page)
+      (df-settling ok) (df-reached ok 0) (df-visit-one ok)
+
+  pub plain-one-comparison : plain ≡ searchBy F (plainVisit F ltb page) source
+  unfolding plainSearch searchBy
+  plain-one-comparison = plain-steps-one-comparison (F .size)
+
+  pub df-one-comparison : df ≡ searchBy F (dfVisit F ltb page) source
+  unfolding dfSearch searchBy
+  df-one-comparison = df-steps-one-comparison (F .size)
+
+  -- what holds of both after n steps
+  plain-holds : (n : ℕ) → Reached ok isSettled (plainAt n)
+  plain-holds n = rw (plain-steps-one-comparison n) (plain-reached ok n)
+
+  df-holds : (n : ℕ) → Reached ok isFresh (dfAt n)
+  df-holds n = rw (df-steps-one-comparison n) (df-reached ok n)
+
+  both-hold : (n : ℕ) → Together ok (plainAt n) (dfAt n)
+  both-hold n = rw (plain-steps-one-comparison n, df-steps-one-comparison n) (together ok n)
+
+  -- Sizes: an entry for each station, marks below 4, no time above none; after any number of steps, and at the end.
+  pub plain-steps-sizes : (n : ℕ) → Tables F (plainAt n)
+  plain-steps-sizes n = plain-holds n .tables
+
+  pub df-steps-sizes : (n : ℕ) → Tables F (dfAt n)
+  df-steps-sizes n = df-holds n .tables
+
+  pub plain-sizes : Tables F plain
+  unfolding plainSearch searchBy
+  plain-sizes = plain-steps-sizes (F .size)
+
+  pub df-sizes : Tables F df
+  unfolding dfSearch searchBy
+  df-sizes = df-steps-sizes (F .size)
+
+  -- Ends: after as many steps as there are stations nobody is left to choose.
+  pub plain-ends : choose F plain ≡ Nobody
+  unfolding plainSearch searchBy iter
+  plain-ends = rw (plain-steps-one-comparison (F .size))
+      (run-ends ok isSettled (plainVisit F ltb page) (plain-settling ok) (start F source) (plain-reached ok 0))
+
+  pub df-ends : choose F df ≡ Nobody
+  unfolding dfSearch searchBy iter
+  df-ends = rw (df-steps-one-comparison (F .size))
+      (run-ends ok isFresh (dfVisit F ltb page) (df-settling ok) (start F source) (df-reached ok 0))
+
+  -- The page loop ends: it leaves no station of its page that has a time and is stale, and it takes no more turns
+  -- than the page has stations. Stated where the DF step calls it: for the station chosen after n steps, on a good
+  -- page.
+  module _ (n u : ℕ) (moves : ℕ → List Move) (chosen : choose F (dfAt n) ≡ Station u)
+      (is : page (F .pageOf u) ≡ good moves) where
+    abbrev pub inHand : State
+    inHand = visit F ltb moves u (withPage (F .pageOf u) (settle u (dfAt n)))
+
+    in-hand-ready : Ready ok inHand
+    in-hand-ready =
+        let k = chosen-next ok isFresh (dfAt n) (df-holds n) u chosen in
+        visited-u ok u (dfAt n) (df-holds n .inv (k .0)) (k .1) moves is .ready
+
+    pub page-loop-ends : chooseOn F (F .pageOf u) (workThrough F ltb (F .pageOf u) moves inHand) ≡ Nobody
+    page-loop-ends = worked-through ok (F .pageOf u) moves is inHand in-hand-ready
+
+    pub page-loop-turns : workThrough F ltb (F .pageOf u) moves inHand
+        ≡ iter (workTurn F ltb (F .pageOf u) moves) (count (λ v. eqb (F .pageOf v) (F .pageOf u)) (F .size)) inHand
+    unfolding stationsOn
+    page-loop-turns = loop-short ok (F .pageOf u) moves is inHand in-hand-ready
+
+  -- Demand 2.
+  pub plain-least-times : plain .halt ≡ going → LeastTimes F page source (plain .times) (plain .preds) (reached F plain)
+  unfolding plainSearch searchBy
+  plain-least-times g = ended-least-times ok isSettled plain (plain-holds (F .size) .inv g) g plain-ends
+
+  pub df-least-times : df .halt ≡ going → LeastTimes F page source (df .times) (df .preds) (reached F df)
+  unfolding dfSearch searchBy
+  df-least-times g = ended-least-times ok isFresh df (df-holds (F .size) .inv g) g df-ends
+
+  -- Both searches accept or are refused alike, and leave the same times and predecessors.
+  pub same-halt : plain .halt ≡ df .halt
+  unfolding plainSearch dfSearch searchBy
+  same-halt = both-hold (F .size) .halt
+
+  pub same-tables : df .halt ≡ going → (plain .times ≡ df .times) × (plain .preds ≡ df .preds)
+  same-tables g = least-times-fix ok (plain .times) (plain .preds) (reached F plain) (plain-least-times (same-halt ∙ g))
+      (df .times) (df .preds) (reached F df) (df-least-times g)
+
+  -- Which page is refused; it stands last in the list.
+  pub plain-refused : (number p offset : ℕ) → plain .halt ≡ refused number p offset
+      → RefusedPage F page source number p offset × ((before : List ℕ) × (plain .pages ≡ before ++ (p ∷ [])))
+  unfolding plainSearch searchBy
+  plain-refused = plain-holds (F .size) .told
+
+  pub df-refused : (number p offset : ℕ) → df .halt ≡ refused number p offset
+      → RefusedPage F page source number p offset × ((before : List ℕ) × (df .pages ≡ before ++ (p ∷ [])))
+  unfolding dfSearch searchBy
+  df-refused = df-holds (F .size) .told
+
+  -- Order: after the same number of steps both searches choose alike and have settled the same stations; whoever is
+  -- chosen has its least cost over walks; and stations are chosen in rising order of least cost, then number.
+  pub same-choice : (n : ℕ) → choose F (plainAt n) ≡ choose F (dfAt n)
+  same-choice n = together-choose ok (plainAt n) (dfAt n) (both-hold n)
+
+  pub same-settled : (n x : ℕ) → isSettled (dfAt n) x ≡ isSettled (plainAt n) x
+  same-settled n = both-hold n .settled
+
+  pub plain-chosen-least : (n u : ℕ) → choose F (plainAt n) ≡ Station u
+      → LeastCost F page source u (timeOf F (plainAt n) u)
+  plain-chosen-least n = rw (plain-steps-one-comparison n)
+      (chosen-least ok isSettled (plainVisit F ltb page) (plain-settling ok) (start-unsettled ok) n)
+
+  pub df-chosen-least : (n u : ℕ) → choose F (dfAt n) ≡ Station u → LeastCost F page source u (timeOf F (dfAt n) u)
+  df-chosen-least n = rw (df-steps-one-comparison n)
+      (chosen-least ok isFresh (dfVisit F ltb page) (df-settling ok) (start-stale ok) n)
+
+  pub chosen-in-order : (j k u v c d : ℕ) → j < k → choose F (dfAt j) ≡ Station u → choose F (dfAt k) ≡ Station v
+      → LeastCost F page source u c → LeastCost F page source v d → (c ≤ d) × (d ≤ c → u < v)
+  chosen-in-order j k = rw (df-steps-one-comparison j, df-steps-one-comparison k)
+      (chosen-rising ok isFresh (dfVisit F ltb page) (df-settling ok) (start-stale ok) j k)
+
+  -- Demand 3. Its parts hold at a page refusal too.
+  pub list-part : Sublistᴰ (df .pages) (plain .pages)
+  unfolding plainSearch dfSearch searchBy
+  list-part = both-hold (F .size) .part
+
+  pub list-reads : onePageReads (df .pages) ≤ onePageReads (plain .pages)
+  list-reads = part-reads list-part
+
+  pub list-often : (p : ℕ) → timesIn p (df .pages) ≤ entryStations F page source (df .pages) p
+  unfolding dfSearch searchBy
+  list-often p = rw (df-steps-one-comparison (F .size)) (often-entered ok (F .size) p)
+
+  pub plain-short : length (plain .pages) ≤ F .size
+  unfolding plainSearch searchBy
+  plain-short = omega (arith, plain-holds (F .size) .short, count-le (isSettled plain) (F .size))
+
+  pub df-short : length (df .pages) ≤ F .size
+  unfolding dfSearch searchBy
+  df-short = omega (arith, df-holds (F .size) .short, count-le (isSettled df) (F .size))
+
+  pub df-list : df .halt ≡ going → ListOf F page source (df .pages) (plain .pages)
+  df-list g = record { part = list-part; often = list-often; reads = list-reads; short = df-short }
+
+  -- The sum of a time and a move stays below none, after any number of steps of either search.
+  pub plain-sum-below-none : (n u v w : ℕ) → (plainAt n) .halt ≡ going → timeOf F (plainAt n) u < F .none
+      → Goes F page u v w
+      → timeOf F (plainAt n) u + w < F .none
+  plain-sum-below-none n u v w g = sum-below-none ok (timeOf F (plainAt n)) (predOf (plainAt n))
+      (plain-holds n .inv g .labels .rooted) u v w
+
+  pub df-sum-below-none : (n u v w : ℕ) → (dfAt n) .halt ≡ going → timeOf F (dfAt n) u < F .none → Goes F page u v w
+      → timeOf F (dfAt n) u + w < F .none
+  df-sum-below-none n u v w g = sum-below-none ok (timeOf F (dfAt n)) (predOf (dfAt n))
+      (df-holds n .inv g .labels .rooted) u v w
+
+-- The room that a map has: 2,048 stations, moves up to 65,535, and none 4,294,967,295.
+pub no-sum-reaches-none : (F : Frame) (longest : ℕ) → F .size ≤ 2048 → longest ≤ 65535 → F .none ≡ 4294967295
+    → F .size * longest < F .none
+no-sum-reaches-none F longest few short none = omega (arith, mul-le-mul few short)
+
+pub map-sound : (F : Frame) (page : ℕ → Page) (source : ℕ) → F .size ≤ 2048 → F .none ≡ 4294967295 → source < F .size
+    → ((u v w : ℕ) → Goes F page u v w → (0 < w) × (w ≤ 65535) × (v < F .size)) → Sound F page source
+map-sound F page source few none inside fits = record {
+  longest = 65535;
+  moves = fits;
+  source-in = inside;
+  room = no-sum-reaches-none F 65535 few (omega arith) none;
+}
+
+-- Locality: two nets that agree on the pages listed by the first one's search get the same result in every part,
+-- accepted or refused. For any nets.
+module _ (F : Frame) (page other : ℕ → Page) (source : ℕ) where
+  pub plain-local : AgreeOn ((plainSearch F page source) .pages) page other
+      → plainSearch F page source ≡ plainSearch F other source
+  unfolding plainSearch
+  plain-local = search-local F page other (plainVisit F (noneOrLess F) page) (plainVisit F (noneOrLess F) other)
+      (plain-visit-local F page other (noneOrLess F)) source
+
+  pub df-local : AgreeOn ((dfSearch F page source) .pages) page other → dfSearch F page source ≡ dfSearch F other source
+  unfolding dfSearch
+  df-local = search-local F page other (dfVisit F (noneOrLess F) page) (dfVisit F (noneOrLess F) other)
+      (df-visit-local F page other (noneOrLess F)) source

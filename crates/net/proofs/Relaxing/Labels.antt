@@ -1,0 +1,232 @@
+-- What the times and predecessors mean while moves are relaxed: a time is the cost of a walk, and a predecessor
+-- accounts for no more than the time. A time is at most `longest` for each nearer station, since a station is
+-- lowered from a nearer one: so a further move still stays below none, and no argument about repeated stations is
+-- needed.
+use mathlib.Core.Path.{_≡_, refl, _∙_}
+use mathlib.Core.Logic.{_⊎_, _≢_, ⊎-elim, dite}
+use mathlib.Core.List.{List, List·Memᴰ}
+use mathlib.Core.Bool.{Bool, true}
+use Prim.Native.Nat.{ℕ, _+_, _*_, _≤_, _<_}
+use native.Mathlib.Nat.{mul-le-mul-right}
+use native.Mathlib.Decide.{ℕ-discrete}
+use native.Mathlib.Omega.{arith}
+use lib.ListN.{List·getD-eq-default}
+use lib.Dec.{ltb}
+use borrow.Author.Tests.{ltb-true, lt-ltb, le-ltb}
+use Rattle.net.specs.Net.{Move, Page, Frame, isGood, movesOf, Goes, Walk, onward, count}
+use Rattle.net.specs.Search.{State, sourceMark, noPred, timeOf, predOf, relax, relaxAll}
+use Rattle.net.proofs.Sound.{Sound}
+use Rattle.net.proofs.Basics.Tests.{le-or-lt}
+use Rattle.net.proofs.Basics.Count.{count-le, count-mono, count-more}
+use Rattle.net.proofs.Relaxing.Relax.{Tables, Same, Kind, lowered, tied, kept, Relaxed, Spread, Met, Fits}
+use Rattle.net.proofs.Relaxing.Relax.{relax-relaxed, relax-spread, spread-none, relaxAll-keeps, relaxAll-met}
+use Rattle.net.proofs.Relaxing.Relax.{met-on}
+
+module _ (F : Frame) where
+  -- how many stations are nearer than x
+  unfoldable pub nearer : (ℕ → ℕ) → ℕ → ℕ
+  nearer time x = count (λ y. ltb (time y) (time x)) (F .size)
+
+  pub timed-inside : (s : State) → Tables F s → (x : ℕ) → timeOf F s x < F .none → x < F .size
+  timed-inside s z x h = ⊎-elim
+      (λ k. absurd (omega (arith, List·getD-eq-default (s .times) (F .none) {n = x} (omega (arith, z .times)))))
+      (λ k. k)
+      (le-or-lt (F .size) x)
+
+  module _ (time : ℕ → ℕ) where
+    pub nearer-below-size : (x : ℕ) → x < F .size → nearer time x < F .size
+    unfolding nearer
+    nearer-below-size x small = omega (
+      arith,
+      count-le (λ y. true) (F .size),
+      count-more (λ y. ltb (time y) (time x)) (λ y. true) (F .size) (λ y l p. refl) x small
+          (le-ltb (time x) (time x) (omega arith)) refl,
+    )
+
+    module _ (later : ℕ → ℕ) (mono : (y : ℕ) → later y ≤ time y) where
+      nearer-mono : (x : ℕ) → later x ≡ time x → nearer time x ≤ nearer later x
+      unfolding nearer
+      nearer-mono x e = count-mono (λ y. ltb (time y) (time x)) (λ y. ltb (later y) (later x)) (F .size)
+          (λ y l p. lt-ltb (later y) (later x) (omega (arith, mono y, ltb-true (time y) (time x) p)))
+
+      pub nearer-more : (u v : ℕ) → u < F .size → time u < later v → nearer time u < nearer later v
+      unfolding nearer
+      nearer-more u v small lt = count-more (λ y. ltb (time y) (time u)) (λ y. ltb (later y) (later v)) (F .size)
+          (λ y l p. lt-ltb (later y) (later v) (omega (arith, mono y, ltb-true (time y) (time u) p)))
+          u small (le-ltb (time u) (time u) (omega arith)) (lt-ltb (later u) (later v) (omega (arith, mono u)))
+
+-- Why x has its time: a walk of that cost, and a move from its predecessor that accounts for no more than that.
+pub record Root (F : Frame) (page : ℕ → Page) (source : ℕ) (time pred : ℕ → ℕ) (x : ℕ) : Type 0 where
+  pub walk : Walk F page source x (time x)
+  pub from : x ≢ source → (w : ℕ) × Goes F page (pred x) x w × (time (pred x) + w ≤ time x)
+
+module _ {F : Frame} {page : ℕ → Page} {source : ℕ} (ok : Sound F page source) where
+  -- what times and predecessors mean, whichever moves have been relaxed
+  pub record Rooted (time pred : ℕ → ℕ) : Type 0 where
+    pub inside : (x : ℕ) → time x < F .none → x < F .size
+    pub source-time : time source ≡ 0
+    pub source-pred : pred source ≡ sourceMark
+    pub root : (x : ℕ) → time x < F .none → Root F page source time pred x
+    pub near : (x : ℕ) → time x < F .none → time x ≤ nearer F time x * ok .longest
+    pub none : (x : ℕ) → F .none ≤ time x → pred x ≡ noPred
+
+  -- and where all moves of the `relaxed` stations have been relaxed at their present times
+  pub record Labels (time pred : ℕ → ℕ) (relaxed : ℕ → Bool) : Type 0 where
+    pub rooted : Rooted time pred
+    pub met : (u v w : ℕ) → relaxed u ≡ true → Goes F page u v w → Met time pred u v (time u + w)
+    pub timed : (u : ℕ) → relaxed u ≡ true → time u < F .none
+    pub read : (u : ℕ) → relaxed u ≡ true → isGood (page (F .pageOf u)) ≡ true
+
+  pub labels-fewer : (time pred : ℕ → ℕ) (relaxed fewer : ℕ → Bool) → ((x : ℕ) → fewer x ≡ true → relaxed x ≡ true)
+      → Labels time pred relaxed → Labels time pred fewer
+  labels-fewer time pred relaxed fewer sub l = record {
+    rooted = l .rooted;
+    met = λ u v w e. l .met u v w (sub u e);
+    timed = λ u e. l .timed u (sub u e);
+    read = λ u e. l .read u (sub u e);
+  }
+
+  -- one more move from a station that has a time stays below none
+  pub sum-below-none : (time pred : ℕ → ℕ) → Rooted time pred → (u v w : ℕ) → time u < F .none → Goes F page u v w
+      → time u + w < F .none
+  sum-below-none time pred r u v w h g =
+      let nearer-u = nearer-below-size F time u (r .inside u h) in
+      omega (arith, r .near u h, mul-le-mul-right (ok .longest) nearer-u, ok .moves u v w g .1, ok .room)
+
+  pub goes-fits : (u : ℕ) (moves : List Move) → ((m : Move) → List·Memᴰ m moves → Goes F page u (m .target) (m .weight))
+      → (m : Move) → List·Memᴰ m moves → Fits F m
+  goes-fits u moves goes m k = let g = ok .moves u (m .target) (m .weight) (goes m k) in (g .0, g .2)
+
+  module _ (u : ℕ) (m : Move) (s : State) (z : Tables F s) (h : timeOf F s u < F .none)
+      (g : Goes F page u (m .target) (m .weight))
+      (r : Rooted (timeOf F s) (predOf s)) where
+    abbrev v : ℕ
+    v = m .target
+
+    abbrev sum : ℕ
+    sum = timeOf F s u + m .weight
+
+    abbrev t : State
+    t = relax F ltb u m s
+
+    fits : Fits F m
+    fits = let k = ok .moves u v (m .weight) g in (k .0, k .2)
+
+    spread : Spread F u s t
+    spread = relax-spread F u m s fits z
+
+    relaxed : Relaxed F u v sum s t
+    relaxed = relax-relaxed F u m s z (fits .1)
+
+    mono : (y : ℕ) → timeOf F t y ≤ timeOf F s y
+    mono y = spread .entry y .mono
+
+    own : timeOf F t u ≡ timeOf F s u
+    own = spread .entry u .low (omega arith) .time
+
+    room : sum < F .none
+    room = sum-below-none (timeOf F s) (predOf s) r u v (m .weight) h g
+
+    same-root : (x : ℕ) → Same F s t x → timeOf F t x < F .none → Root F page source (timeOf F t) (predOf t) x
+    same-root x e k =
+        let old = r .root x (omega (arith, e .time)) in
+        record {
+          walk = rw (e .time) (old .walk);
+          from = λ ne. let f = old .from ne in rw (e .pred, e .time) (f .0, f .1, omega (arith, mono (predOf s x)));
+        }
+
+    same-near : (x : ℕ) → timeOf F t x ≡ timeOf F s x → timeOf F t x < F .none
+        → timeOf F t x ≤ nearer F (timeOf F t) x * ok .longest
+    same-near x e k = omega (
+      arith,
+      r .near x (omega arith),
+      mul-le-mul-right (ok .longest) (nearer-mono F (timeOf F s) (timeOf F t) mono x e),
+    )
+
+    target-root : Kind F u v sum s t → timeOf F t v < F .none → Root F page source (timeOf F t) (predOf t) v
+    target-root (lowered lt a b c) k = record {
+      walk = rw a (onward v (m .weight) (r .root u h .walk) g);
+      from = λ ne. rw (b, a, own) (m .weight, g, omega arith);
+    }
+    target-root (tied e lt a b c) k = record {
+      walk = rw (a, ← e) (onward v (m .weight) (r .root u h .walk) g);
+      from = λ ne. rw (b, a, own) (m .weight, g, omega arith);
+    }
+    target-root (kept le lo e) k = same-root v e k
+
+    target-near : Kind F u v sum s t → timeOf F t v < F .none → timeOf F t v ≤ nearer F (timeOf F t) v * ok .longest
+    target-near (lowered lt a b c) k =
+        let more = nearer-more F (timeOf F s) (timeOf F t) mono u v (r .inside u h) (omega (arith, fits .0)) in
+        omega (arith, r .near u h, mul-le-mul-right (ok .longest) more, ok .moves u v (m .weight) g .1)
+    target-near (tied e lt a b c) k = same-near v a k
+    target-near (kept le lo e) k = same-near v (e .time) k
+
+    target-none : Kind F u v sum s t → F .none ≤ timeOf F t v → predOf t v ≡ noPred
+    target-none (lowered lt a b c) k = absurd (omega (arith, room))
+    target-none (tied e lt a b c) k = absurd (omega (arith, room))
+    target-none (kept le lo e) k = e .pred ∙ r .none v (omega (arith, e .time))
+
+    at : (P : ℕ → Type 0) → P v → ((x : ℕ) → x ≢ v → P x) → (x : ℕ) → P x
+    at P p q x = dite (ℕ-discrete x v) (λ e. rw e p) (q x)
+
+    relax-rooted : Rooted (timeOf F t) (predOf t)
+    relax-rooted = record {
+      inside = timed-inside F t (spread .tables);
+      source-time = source-same .time ∙ r .source-time;
+      source-pred = source-same .pred ∙ r .source-pred;
+      root = at (λ x. timeOf F t x < F .none → Root F page source (timeOf F t) (predOf t) x)
+          (target-root (relaxed .kind))
+          (λ x ne. same-root x (relaxed .others x ne));
+      near = at (λ x. timeOf F t x < F .none → timeOf F t x ≤ nearer F (timeOf F t) x * ok .longest)
+          (target-near (relaxed .kind))
+          (λ x ne. same-near x (relaxed .others x ne .time));
+      none = at (λ x. F .none ≤ timeOf F t x → predOf t x ≡ noPred) (target-none (relaxed .kind))
+          (λ x ne k. relaxed .others x ne .pred ∙ r .none x (omega (arith, relaxed .others x ne .time)));
+    }
+      where
+        source-same : Same F s t source
+        source-same = spread .entry source .low (omega (arith, r .source-time))
+
+  pub relaxAll-rooted : (u : ℕ) (moves : List Move) (s : State)
+      → ((m : Move) → List·Memᴰ m moves → Goes F page u (m .target) (m .weight))
+      → Tables F s → timeOf F s u < F .none → Rooted (timeOf F s) (predOf s)
+      → Spread F u s (relaxAll F ltb u moves s) × Rooted (timeOf F (relaxAll F ltb u moves s))
+      (predOf (relaxAll F ltb u moves s))
+  relaxAll-rooted u moves s goes z h r = relaxAll-keeps F u s (λ t. Rooted (timeOf F t) (predOf t)) moves
+      (goes-fits u moves goes)
+      (λ m t k p q. relax-rooted u m t (p .tables) (omega (arith, p .entry u .low (omega arith) .time)) (goes m k) q)
+      s (spread-none F u s z) r
+
+  -- All moves of u relaxed: now u's are met, and whoever's were met and kept its time still has them met.
+  module _ (u : ℕ) (s : State) (before : ℕ → Bool) (z : Tables F s) (h : timeOf F s u < F .none)
+      (l : Labels (timeOf F s) (predOf s) before) where
+    abbrev moves : List Move
+    moves = movesOf (page (F .pageOf u)) u
+
+    abbrev after : State
+    after = relaxAll F ltb u moves s
+
+    both : Spread F u s after × Rooted (timeOf F after) (predOf after)
+    both = relaxAll-rooted u moves s (λ m k. k) z h (l .rooted)
+
+    pub relaxed-spread : Spread F u s after
+    relaxed-spread = both .0
+
+    pub relaxed-labels : (now : ℕ → Bool) → isGood (page (F .pageOf u)) ≡ true
+        → ((x : ℕ) → now x ≡ true → (x ≡ u) ⊎ ((before x ≡ true) × (timeOf F after x ≡ timeOf F s x)))
+        → Labels (timeOf F after) (predOf after) now
+    relaxed-labels now good-page why = record {
+      rooted = both .1;
+      met = λ x v w e g. ⊎-elim
+          (λ q. rw q (rw own (relaxAll-met F u moves s (goes-fits u moves (λ m k. k)) z (record {
+            target = v;
+            weight = w;
+          }) (rw q at g))))
+          (λ k. rw (k .1) (met-on F u x v (timeOf F s x + w) s after (relaxed-spread .entry v) (l .met x v w (k .0) g)))
+          (why x e);
+      timed = λ x e. ⊎-elim (λ q. rw q (omega (arith, own))) (λ k. omega (arith, k .1, l .timed x (k .0))) (why x e);
+      read = λ x e. ⊎-elim (λ q. rw q good-page) (λ k. l .read x (k .0)) (why x e);
+    }
+      where
+        own : timeOf F after u ≡ timeOf F s u
+        own = relaxed-spread .entry u .low (omega arith) .time

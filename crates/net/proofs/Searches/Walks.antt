@@ -1,0 +1,104 @@
+-- Walks against the times of a search under way: a walk's end is no later than the walk, or the walk costs more
+-- than some station still to be settled. So whoever is chosen has its least cost over walks, and two searches that
+-- have settled the same stations choose alike, whichever stations they have relaxed.
+use mathlib.Core.Path.{_≡_, refl, sym, _∙_, ap}
+use mathlib.Core.Logic.{_⊎_, inl, inr, ⊎-elim}
+use mathlib.Core.Bool.{Bool, true, false, true≢false}
+use Prim.Native.Nat.{ℕ, _+_, _≤_, _<_}
+use native.Mathlib.Omega.{arith}
+use Rattle.net.specs.declared.Choice.{Choice}
+use Rattle.net.specs.declared.Choice.the-variants.{Station, Nobody}
+use Rattle.net.specs.Net.{Page, Frame, isGood, Walk, here, onward}
+use Rattle.net.specs.Search.{State, timeOf, isSettled}
+use Rattle.net.proofs.Sound.{Sound}
+use Rattle.net.proofs.Basics.Tests.{false-of, le-or-lt}
+use Rattle.net.proofs.Steps.Choose.{Next, NextIs}
+use Rattle.net.proofs.Steps.Invariant.{Inv}
+
+-- c is the least cost over all walks to v.
+pub record LeastCost (F : Frame) (page : ℕ → Page) (source v c : ℕ) : Type 0 where
+  pub walk : Walk F page source v c
+  pub least : (d : ℕ) → Walk F page source v d → c ≤ d
+
+pub least-cost-one : (F : Frame) (page : ℕ → Page) (source v c d : ℕ) → LeastCost F page source v c
+    → LeastCost F page source v d → c ≡ d
+least-cost-one F page source v c d a b = omega (arith, a .least d (b .walk), b .least c (a .walk))
+
+module _ {F : Frame} {page : ℕ → Page} {source : ℕ} (ok : Sound F page source) where
+  pub walk-bound : (relaxed : State → ℕ → Bool) (s : State) → Inv ok relaxed s → (T : ℕ)
+      → ((x : ℕ) → isSettled s x ≡ false → timeOf F s x < F .none → T ≤ timeOf F s x)
+      → {x c : ℕ} → Walk F page source x c → (timeOf F s x ≤ c) ⊎ (T < c)
+  walk-bound relaxed s i T floor here = inl (omega (arith, i .labels .rooted .source-time))
+  walk-bound relaxed s i T floor (onward {u = u} {c = c} v w k g) = ⊎-elim (λ le. by-relaxed (relaxed s u) refl le)
+      (λ lt. inr (omega arith))
+      (walk-bound relaxed s i T floor k)
+    where
+      by-relaxed : (b : Bool) → relaxed s u ≡ b → timeOf F s u ≤ c → (timeOf F s v ≤ c + w) ⊎ (T < c + w)
+      by-relaxed true e le = inl (omega (arith, i .labels .met u v w e g .0))
+      by-relaxed false e le = ⊎-elim
+          (λ far. inl (omega (arith, i .tables .capped v)))
+          (λ near. inr (omega (
+            arith,
+            floor u (false-of (isSettled s u) (λ d. true≢false (sym (i .done u d) ∙ e))) near,
+            ok .moves u v w g .0,
+          )))
+          (le-or-lt (F .none) (timeOf F s u))
+
+  module _ (relaxed : State → ℕ → Bool) (s : State) (i : Inv ok relaxed s) (u : ℕ) (n : Next F s u) where
+    -- whoever is settled or is next has its least cost
+    least-by : (x : ℕ) → timeOf F s x ≤ timeOf F s u → LeastCost F page source x (timeOf F s x)
+    least-by x le = record {
+      walk = i .labels .rooted .root x (omega (arith, n .timed)) .walk;
+      least = λ d k. ⊎-elim (λ h. h) (λ h. omega arith)
+          (walk-bound relaxed s i (timeOf F s u) (λ y p q. n .first y p q .low) k);
+    }
+
+    pub next-least : LeastCost F page source u (timeOf F s u)
+    next-least = least-by u (omega arith)
+
+    pub settled-least : (x : ℕ) → isSettled s x ≡ true → LeastCost F page source x (timeOf F s x)
+    settled-least x e = least-by x (i .order x u e (n .pending) (n .timed) .low)
+
+    -- of all stations on bad pages, u comes first if it is one
+    pub first-bad : (x d : ℕ) → Walk F page source x d → isGood (page (F .pageOf x)) ≡ false
+        → (timeOf F s u ≤ d) × (d ≤ timeOf F s u → u ≤ x)
+    first-bad x d k f = ⊎-elim
+        (λ le. ⊎-elim
+        (λ far. let t = n .timed in (omega arith, λ h. absurd (omega arith)))
+        (λ near. let b = n .first x unsettled near in (omega arith, λ h. b .tie (omega arith)))
+        (le-or-lt (F .none) (timeOf F s x)))
+        (λ lt. (omega arith, λ h. absurd (omega arith)))
+        (walk-bound relaxed s i (timeOf F s u) (λ y a b. n .first y a b .low) k)
+      where
+        unsettled : isSettled s x ≡ false
+        unsettled = false-of (isSettled s x) (λ e. true≢false (sym (i .labels .read x (i .done x e)) ∙ f))
+
+  module _ (one other : State → ℕ → Bool) (s t : State) (i : Inv ok one s) (j : Inv ok other t)
+      (same : (x : ℕ) → isSettled t x ≡ isSettled s x) where
+    -- where s has a station to settle, t has one that comes no later
+    never-alone : (u : ℕ) → Next F s u → NextIs F t Nobody → ⊥
+    never-alone u n none = ⊎-elim
+        (λ le. none u (same u ∙ n .pending) (omega (arith, n .timed)))
+        (λ lt. omega arith)
+        (walk-bound other t j (timeOf F s u) (λ x p q. absurd (none x p q))
+        (i .labels .rooted .root u (n .timed) .walk))
+
+    no-later : (u v : ℕ) → Next F s u → Next F t v
+        → (timeOf F t v ≤ timeOf F s u) × (timeOf F s u ≤ timeOf F t v → v ≤ u)
+    no-later u v n m = ⊎-elim
+        (λ le. let b = m .first u (same u ∙ n .pending) (omega (arith, n .timed)) in
+        (omega arith, λ h. b .tie (omega arith)))
+        (λ lt. (omega arith, λ h. absurd (omega arith)))
+        (walk-bound other t j (timeOf F t v) (λ x p q. m .first x p q .low)
+        (i .labels .rooted .root u (n .timed) .walk))
+
+  pub same-next : (one other : State → ℕ → Bool) (s t : State) → Inv ok one s → Inv ok other t
+      → ((x : ℕ) → isSettled t x ≡ isSettled s x) → (c d : Choice) → NextIs F s c → NextIs F t d → c ≡ d
+  same-next one other s t i j same Nobody Nobody n m = refl
+  same-next one other s t i j same Nobody (Station v) n m = absurd
+      (never-alone other one t s j i (λ x. sym (same x)) v m n)
+  same-next one other s t i j same (Station u) Nobody n m = absurd (never-alone one other s t i j same u n m)
+  same-next one other s t i j same (Station u) (Station v) n m =
+      let a = no-later one other s t i j same u v n m in
+      let b = no-later other one t s j i (λ x. sym (same x)) v u m n in
+      ap Station (let e : u ≡ v = omega (arith, a .1 (b .0), b .1 (a .0)) in e)
