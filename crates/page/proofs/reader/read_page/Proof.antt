@@ -1,0 +1,213 @@
+-- Both loops keep `Left`: what is left to read from the offset `at` on decides the verdict on the page. Each arm of
+-- the match is one step of the definition (proofs/Left.antt); at a station the thread tells which one is due next.
+use mathlib.Core.Path.{sym, _∙_}
+use mathlib.Core.List.{List}
+use native.Mathlib.Omega.{arith}
+use Prim.Native.Nat.{ℕ, _+_, _-_, _≤_, _<_}
+use denote.Ref.{now}
+use lib.ListN.{length, getD}
+use borrow.Author.Needs.{needs}
+use Rattle.page.proofs.Left.{Left, left-start, left-move, left-threaded, left-end, left-fault}
+use Rattle.page.proofs.Left.{move-room, station-room, station-known}
+use Rattle.page.proofs.reader.read_page.Statement.{statement}
+use Rattle.page.proofs.reader.read_page.Tie as tie
+
+abbrev Inv-loop : tie.InvT-loop
+Inv-loop directory first next p page size due at₀ after least₀ number₀ at least number =
+    Left directory p page at due after least × (at₀ ≤ at)
+
+abbrev μ-loop : tie.MeasureT-loop
+μ-loop directory first next p page size due at₀ after least₀ number₀ at least number = length page - at
+
+abbrev Inv-page : tie.InvT-page
+Inv-page directory first next p page size due₀ at₀ after₀ least₀ number₀ due at after least number =
+    Left directory p page at due after least
+
+abbrev μ-page : tie.MeasureT-page
+μ-page directory first next p page size due₀ at₀ after₀ least₀ number₀ due at after least number = length page - at
+
+-- The place behind `judged_at`, where the arms of the match begin.
+abbrev Judged : Type 0
+Judged = tie.After-judged-at Inv-loop μ-loop Inv-page μ-page
+
+module _ (j : Judged) where
+  abbrev entry : tie.Start Inv-loop μ-loop Inv-page μ-page
+  entry = j .before .before .before .before .before .before .before .before
+
+  abbrev directory : List ℕ
+  directory = now (entry .args .directory)
+
+  abbrev page : List ℕ
+  page = now (entry .args .page)
+
+  abbrev p : ℕ
+  p = entry .args .p
+
+  abbrev at : ℕ
+  at = j .before .loop .at
+
+  abbrev due : ℕ
+  due = j .before .before .page .due
+
+  abbrev after : ℕ
+  after = j .before .before .page .after
+
+  abbrev least : ℕ
+  least = j .before .loop .least
+
+  abbrev left : Left directory p page at due after least
+  left = j .before .loop .inv .0
+
+-- The arm of a move: the move is within the page, and what follows it is left.
+move-read : (c : tie.After-m Inv-loop μ-loop Inv-page μ-page)
+    → let j = c .before .before in
+    (at j + 5 ≤ length (page j))
+    × Left (directory j) (p j) (page j) (at j + 5) (due j) (after j) (c .m .given .0 .0 .target + 1)
+move-read c =
+    let j = c .before .before in
+    let m = c .m .given .0 .0 in
+    let found = sym (j .judged-at .ensures) ∙ c .m .given .1 in (
+      move-room (directory j) (p j) (page j) (at j) (due j) (after j) (least j) (left j) m found,
+      left-move (directory j) (p j) (page j) (at j) (due j) (after j) (least j) (left j) m found,
+    )
+
+-- The arm of a station: it is below N and within the page, and what follows it is left.
+station-read : (c : tie.After-v Inv-loop μ-loop Inv-page μ-page)
+    → let j = c .before .before in
+    let v = c .v .given .0 .0 in
+    (v < length (directory j)) × (at j + 3 ≤ length (page j))
+    × Left (directory j) (p j) (page j) (at j + 3) (getD (now (entry j .args .next)) v 0) (v + 1) 0
+station-read c =
+    let j = c .before .before in
+    let v = c .v .given .0 .0 in
+    let a = entry j .args in
+    let found = sym (j .judged-at .ensures) ∙ c .v .given .1 in
+    let step = left-threaded (directory j) (p j) (page j) (at j) (due j) (after j) (least j) (left j) in (
+      station-known (directory j) (p j) (page j) (at j) (due j) (after j) (least j) (left j) v found .0,
+      station-room (directory j) (p j) (page j) (at j) (due j) (after j) (least j) (left j) v found,
+      step (now (a .first)) (now (a .next)) v (entry j .pre) found,
+    )
+
+mul-due : tie.Need-mul-due Inv-loop μ-loop Inv-page μ-page
+mul-due c = omega (arith, c .before .before .before .before .fits .p)
+
+shared-slice-read-due : tie.Need-shared-slice-read-due Inv-loop μ-loop Inv-page μ-page
+shared-slice-read-due c =
+    let start = c .before .before .before .before .before in
+    omega (arith, start .pre .pages, start .fits .p)
+
+cast-due : tie.Need-cast-due Inv-loop μ-loop Inv-page μ-page
+cast-due c = omega (arith, c .shared-slice-known5 .given (c .before .before .before .before .before .args .p))
+
+page-holds : tie.Need-page-holds Inv-loop μ-loop Inv-page μ-page
+page-holds c =
+    let start = c .before .before .before .before .before in
+    let a = start .args in
+    let first-due = start .pre .first-on (a .p) (omega (arith, start .fits .p)) in
+    left-start (now (a .directory)) (a .p) (now (a .page)) (getD (now (a .first)) (a .p) 0) first-due
+
+loop-holds : tie.Need-loop-holds Inv-loop μ-loop Inv-page μ-page
+loop-holds c = (c .page .inv, omega arith)
+
+judged-at-requires : tie.Need-judged-at-requires Inv-loop μ-loop Inv-page μ-page
+judged-at-requires c κs = search needs
+
+enum-known-m : tie.Need-enum-known-m Inv-loop μ-loop Inv-page μ-page
+enum-known-m c = search needs
+
+cast-least : tie.Need-cast-least Inv-loop μ-loop Inv-page μ-page
+cast-least c = search needs
+
+add-least : tie.Need-add-least Inv-loop μ-loop Inv-page μ-page
+add-least c = search needs
+
+add-at : tie.Need-add-at Inv-loop μ-loop Inv-page μ-page
+add-at c = omega (arith, move-read (c .before .before) .0)
+
+loop-less : tie.Need-loop-less Inv-loop μ-loop Inv-page μ-page
+loop-less c = omega (arith, move-read (c .before .before) .0)
+
+loop-again : tie.Need-loop-again Inv-loop μ-loop Inv-page μ-page
+loop-again c = (move-read (c .before .before) .1, omega arith)
+
+enum-known-v : tie.Need-enum-known-v Inv-loop μ-loop Inv-page μ-page
+enum-known-v c = search needs
+
+cast-station : tie.Need-cast-station Inv-loop μ-loop Inv-page μ-page
+cast-station c = search needs
+
+enum-told : tie.Need-enum-told Inv-loop μ-loop Inv-page μ-page
+enum-told c = search needs
+
+returns : tie.Need-returns Inv-loop μ-loop Inv-page μ-page
+returns c =
+    let j = c .before .before in
+    let found = sym (j .judged-at .ensures) ∙ c .enum-told .given .1 in
+    left-end (directory j) (p j) (page j) (at j) (due j) (after j) (least j) (left j) found
+
+enum-known-k : tie.Need-enum-known-k Inv-loop μ-loop Inv-page μ-page
+enum-known-k c = search needs
+
+mul-due-2 : tie.Need-mul-due-2 Inv-loop μ-loop Inv-page μ-page
+mul-due-2 c = search needs
+
+shared-slice-read-due-2 : tie.Need-shared-slice-read-due-2 Inv-loop μ-loop Inv-page μ-page
+shared-slice-read-due-2 c =
+    let j = c .before .before .before .before in
+    omega (arith, station-read (c .before .before) .0, entry j .pre .stations)
+
+cast-due-2 : tie.Need-cast-due-2 Inv-loop μ-loop Inv-page μ-page
+cast-due-2 c = omega (arith, c .shared-slice-known6 .given (c .before .before .v .given .0 .0))
+
+add-after : tie.Need-add-after Inv-loop μ-loop Inv-page μ-page
+add-after c = search needs
+
+add-at-2 : tie.Need-add-at-2 Inv-loop μ-loop Inv-page μ-page
+add-at-2 c = omega (arith, station-read (c .before .before) .1)
+
+page-less : tie.Need-page-less Inv-loop μ-loop Inv-page μ-page
+page-less c = omega (arith, station-read (c .before .before) .1)
+
+page-again : tie.Need-page-again Inv-loop μ-loop Inv-page μ-page
+page-again c = station-read (c .before .before) .2
+
+returns-2 : tie.Need-returns-2 Inv-loop μ-loop Inv-page μ-page
+returns-2 c =
+    let j = c .before .before .before in
+    let k = c .before .k .given in
+    let found = sym (j .judged-at .ensures) ∙ k .1 in
+    left-fault (directory j) (p j) (page j) (at j) (due j) (after j) (least j) (left j) (k .0 .0) found
+
+pub read-page-spec : {M : Type 1} → statement M
+read-page-spec =
+    tie.close
+    (tie.spec
+    Inv-loop
+    μ-loop
+    Inv-page
+    μ-page
+    mul-due
+    shared-slice-read-due
+    cast-due
+    page-holds
+    loop-holds
+    judged-at-requires
+    enum-known-m
+    cast-least
+    add-least
+    add-at
+    loop-less
+    loop-again
+    enum-known-v
+    cast-station
+    enum-told
+    returns
+    enum-known-k
+    mul-due-2
+    shared-slice-read-due-2
+    cast-due-2
+    add-after
+    add-at-2
+    page-less
+    page-again
+    returns-2)

@@ -1,0 +1,32 @@
+-- The whole check: "does 1 to 5, then the pages by rising number" (01, "Route, whole check, program").
+use mathlib.Core.List.{List}
+use Prim.Native.Nat.{ℕ, zero, suc}
+use Rattle.page.specs.declared.Verdict.{Verdict}
+use Rattle.page.specs.declared.Verdict.the-variants.{Good, Bad}
+use Rattle.page.specs.Image.{Outcome, accepted, refused, on-page, headingCheck, directoryOf, pageBytes, pageCount}
+use Rattle.page.specs.Reading.{Reading, good, bad, readPage}
+
+-- What reading page p of an image gives, and what the reader's answer says of it.
+unfoldable pub readingOf : List ℕ → ℕ → Reading
+readingOf image p = readPage (directoryOf image) p (pageBytes image p)
+
+abbrev pub verdictOf : Reading → Verdict
+verdictOf (good moves stations) = Good
+verdictOf (bad number offset) = Bad number offset
+
+-- The outcome of one page, and behind it that of what follows where the page is good.
+abbrev pub pageOutcome : ℕ → Reading → Outcome → Outcome
+pageOutcome p (good moves stations) following = following
+pageOutcome p (bad number offset) following = refused number (on-page p offset)
+
+-- So many pages by rising number, from page p on.
+unfoldable pub pagesFrom : List ℕ → ℕ → ℕ → Outcome
+pagesFrom image zero p = accepted
+pagesFrom image (suc count) p = let following = pagesFrom image count (suc p) in pageOutcome p (readingOf image p) following
+
+abbrev pub afterHeading : Outcome → Outcome → Outcome
+afterHeading accepted following = following
+afterHeading (refused number place) following = refused number place
+
+unfoldable pub wholeCheck : List ℕ → Outcome
+wholeCheck image = afterHeading (headingCheck image) (pagesFrom image (pageCount image) 0)

@@ -1,0 +1,6 @@
+pub mod Bytes
+pub mod Image
+pub mod Reading
+pub mod Check
+pub mod Walk
+pub mod Good

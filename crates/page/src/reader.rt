@@ -1,0 +1,111 @@
+// The page reader: a page is good, or has a first command at fault.
+
+ghost use mathlib.Core.Path.{_≡_};
+ghost use Prim.Native.Nat.{_<_};
+ghost use lib.ListN.{length, drop};
+ghost use Rattle.page.specs.Reading.{judgeEnd, judgeStation, judgeMove, judgedAt, readPage};
+ghost use Rattle.page.specs.Check.{verdictOf};
+ghost use Rattle.page.specs.Walk.{Threaded};
+use super::Command;
+use super::Move;
+use super::Verdict;
+use super::bytes::zero_from;
+use super::commands::command_at;
+
+// For `00`: 10 if a station is still missing, then 14.
+fn judge_end(page: &[u8], at: usize, size: usize, due: usize) -> Command
+    ensures value { λ r. ⌜ r ≡ judgeEnd size due (drop at (now (page .entry))) ⌝ }
+{
+    if due < size {
+        return Command::Fault(10);
+    }
+    if zero_from(page, at) {
+        Command::End
+    } else {
+        Command::Fault(14)
+    }
+}
+
+// For `01`: 10.
+fn judge_station(size: usize, due: usize, v: u16) -> Command
+    ensures value { λ r. ⌜ r ≡ judgeStation size due v ⌝ }
+{
+    if size <= v as usize {
+        return Command::Fault(10);
+    }
+    if v as usize == due {
+        Command::Station(v)
+    } else {
+        Command::Fault(10)
+    }
+}
+
+// For `02`: 11, 12, 13.
+fn judge_move(size: usize, after: usize, least: usize, m: Move) -> Command
+    ensures value { λ r. ⌜ r ≡ judgeMove size after least m ⌝ }
+{
+    let target = m.target as usize;
+    if after == 0 {
+        return Command::Fault(11);
+    }
+    if size <= target {
+        return Command::Fault(12);
+    }
+    if target + 1 == after {
+        return Command::Fault(12);
+    }
+    if target < least {
+        return Command::Fault(12);
+    }
+    if m.time == 0 {
+        return Command::Fault(13);
+    }
+    Command::MoveTo(m)
+}
+
+// The command at an offset, or the number of its fault.
+fn judged_at(page: &[u8], at: usize, size: usize, due: usize, after: usize, least: usize) -> Command
+    ensures value { λ r. ⌜ r ≡ judgedAt (now (page .entry)) at size due after least ⌝ }
+{
+    match command_at(page, at) {
+        Command::End => judge_end(page, at, size, due),
+        Command::Station(v) => judge_station(size, due, v),
+        Command::MoveTo(m) => judge_move(size, after, least, m),
+        Command::Fault(number) => Command::Fault(number),
+    }
+}
+
+// Reads page p: good, or the number and the offset of the first command at fault. The directory comes threaded, so that
+// the station that is due is at hand.
+pub fn read_page(directory: &[u8], first: &[u16], next: &[u16], p: u8, page: &[u8]) -> Verdict
+    requires { ⌜ Threaded (now directory) (now first) (now next) ⌝ }
+    ensures verdict { λ r. ⌜ r ≡ verdictOf (readPage (now (directory .entry)) p (now (page .entry))) ⌝ }
+{
+    let size = directory.len();
+    let mut due = first[p as usize] as usize;
+    let mut at: usize = 0;
+    let mut after: usize = 0;
+    let mut least: usize = 0;
+    let mut number: u8 = 0;
+    let offset = 'page: loop {
+        let station = loop {
+            match judged_at(page, at, size, due, after, least) {
+                Command::MoveTo(m) => {
+                    least = m.target as usize + 1;
+                    at += 5;
+                }
+                Command::Station(v) => break v as usize,
+                Command::End => return Verdict::Good,
+                Command::Fault(k) => {
+                    number = k;
+                    break 'page at;
+                }
+            }
+        };
+        due = next[station] as usize;
+        after = station + 1;
+        least = 0;
+        at += 3;
+    };
+    Verdict::Bad { number, offset }
+}

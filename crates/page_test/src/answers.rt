@@ -1,0 +1,111 @@
+// The answers of the page crate in one shape, and their text.
+
+use libc::STDOUT_FILENO;
+use page::Checked;
+use page::Verdict;
+use page::image::page_of;
+use page::reader::read_page;
+ghost use Rattle.page.specs.Walk.{Threaded};
+
+// A part of an answer that the refusal doesn't name.
+const UNNAMED: usize = 65535;
+
+// A refusal's number, 0 where all is good, and its place.
+pub struct Answer {
+    pub number: usize,
+    pub station: usize,
+    pub page: usize,
+    pub offset: usize,
+}
+
+fn wide(x: u8) -> usize {
+    x as usize
+}
+
+fn wide_station(x: u16) -> usize {
+    x as usize
+}
+
+// An answer that names no place.
+fn plain(number: usize) -> Answer {
+    Answer {
+        number,
+        station: UNNAMED,
+        page: UNNAMED,
+        offset: UNNAMED,
+    }
+}
+
+// What a check of an image found.
+fn of_check(checked: Checked) -> Answer {
+    match checked {
+        Checked::Whole => plain(0),
+        Checked::Refused(number) => plain(wide(number)),
+        Checked::NoPage(station) => {
+            Answer {
+                number: 5,
+                station: wide_station(station),
+                page: UNNAMED,
+                offset: UNNAMED,
+            }
+        }
+        Checked::BadPage {
+            number,
+            page,
+            offset,
+        } => {
+            Answer {
+                number: wide(number),
+                station: UNNAMED,
+                page: wide(page),
+                offset,
+            }
+        }
+    }
+}
+
+// What the whole check answers for an image.
+pub fn of_image(image: &[u8]) -> Answer {
+    of_check(page::whole::check(image))
+}
+
+// What the page reader answers for a page of an image.
+pub fn of_page(image: &[u8], directory: &[u8], first: &[u16], next: &[u16], p: u8) -> Answer
+    requires { ⌜ Threaded (now directory) (now first) (now next) ⌝ }
+{
+    match read_page(directory, first, next, p, page_of(image, p)) {
+        Verdict::Good => plain(0),
+        Verdict::Bad { number, offset } => {
+            Answer {
+                number: wide(number),
+                station: UNNAMED,
+                page: UNNAMED,
+                offset,
+            }
+        }
+    }
+}
+
+// Whether two answers are the same in all parts.
+pub fn same(a: Answer, b: Answer) -> bool {
+    a.number == b.number && a.station == b.station && a.page == b.page && a.offset == b.offset
+}
+
+fn print_part(word: &[u8], value: usize) {
+    if value != UNNAMED {
+        io::write_all(STDOUT_FILENO, word);
+        io::print_decimal(STDOUT_FILENO, value as u64);
+    }
+}
+
+// Prints `good`, or the refusal with the place that it names.
+pub fn print(a: Answer) {
+    if a.number == 0 {
+        io::write_all(STDOUT_FILENO, b"good");
+        return;
+    }
+    print_part(b"refused ", a.number);
+    print_part(b" station ", a.station);
+    print_part(b" page ", a.page);
+    print_part(b" offset ", a.offset);
+}
