@@ -1,0 +1,4 @@
+pub mod Compare
+pub mod Rising
+pub mod Root
+pub mod Queue

@@ -1,0 +1,4 @@
+pub mod Entries
+pub mod Relaxing
+pub mod Choosing
+pub mod Working

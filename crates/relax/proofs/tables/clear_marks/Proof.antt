@@ -1,0 +1,53 @@
+use native.Mathlib.Omega.{arith}
+use Prim.Native.Nat.{_-_}
+use lib.ListN.{length}
+use denote.Ref.{now}
+use borrow.Author.Needs.{needs}
+use Rattle.relax.proofs.Entries.{Filling, filling-start, filling-more, filling-end}
+use Rattle.relax.proofs.tables.clear_marks.Statement.{statement}
+use Rattle.relax.proofs.tables.clear_marks.Tie as tie
+
+abbrev Inv-loop : tie.InvT-loop
+Inv-loop marks₀ i₀ marks i = Filling marks₀ 0 i marks
+
+abbrev μ-loop : tie.MeasureT-loop
+μ-loop marks₀ i₀ marks i = length marks₀ - i
+
+loop-holds : tie.Need-loop-holds Inv-loop μ-loop
+loop-holds c = filling-start (now (c .args .marks)) 0
+
+slice-write-marks : tie.Need-slice-write-marks Inv-loop μ-loop
+slice-write-marks c = search needs
+
+add-i : tie.Need-add-i Inv-loop μ-loop
+add-i c = omega (arith, c .before .loop .inv .same)
+
+loop-less : tie.Need-loop-less Inv-loop μ-loop
+loop-less c = omega (arith, c .before .loop .inv .same)
+
+loop-again : tie.Need-loop-again Inv-loop μ-loop
+loop-again c =
+    let l = c .before .loop in
+    filling-more (now (c .before .before .args .marks)) 0 (l .i) (l .marks) (c .loop-test .taken) (l .inv)
+
+same-length : tie.Need-same-length Inv-loop μ-loop
+same-length c = c .before .loop .inv .same
+
+returns : tie.Need-returns Inv-loop μ-loop
+returns c =
+    let l = c .before .loop in
+    filling-end (now (c .before .before .args .marks)) 0 (l .i) (l .marks) (c .loop-test .left) (l .inv)
+
+pub clear-marks-spec : {M : Type 1} → statement M
+clear-marks-spec =
+    tie.close
+    (tie.spec
+    Inv-loop
+    μ-loop
+    loop-holds
+    slice-write-marks
+    add-i
+    loop-less
+    loop-again
+    same-length
+    returns)

@@ -1,0 +1,57 @@
+use native.Mathlib.Omega.{arith}
+use Prim.Native.Nat.{_-_}
+use lib.ListN.{length}
+use denote.Ref.{now}
+use borrow.Author.Needs.{needs}
+use Rattle.relax.proofs.Entries.{Filling, filling-start, filling-more, filling-end}
+use Rattle.relax.proofs.tables.clear_times.Statement.{statement}
+use Rattle.relax.proofs.tables.clear_times.Tie as tie
+
+abbrev Inv-loop : tie.InvT-loop
+Inv-loop times₀ i₀ times i = Filling times₀ 4294967295 i times
+
+abbrev μ-loop : tie.MeasureT-loop
+μ-loop times₀ i₀ times i = length times₀ - i
+
+loop-holds : tie.Need-loop-holds Inv-loop μ-loop
+loop-holds c = filling-start (now (c .args .times)) 4294967295
+
+mul-times : tie.Need-mul-times Inv-loop μ-loop
+mul-times c = omega (arith, c .before .loop .inv .same)
+
+slice-write-times : tie.Need-slice-write-times Inv-loop μ-loop
+slice-write-times c = search needs
+
+add-i : tie.Need-add-i Inv-loop μ-loop
+add-i c = omega (arith, c .before .loop .inv .same)
+
+loop-less : tie.Need-loop-less Inv-loop μ-loop
+loop-less c = omega (arith, c .before .loop .inv .same)
+
+loop-again : tie.Need-loop-again Inv-loop μ-loop
+loop-again c =
+    let l = c .before .loop in
+    filling-more (now (c .before .before .args .times)) 4294967295 (l .i) (l .times) (c .loop-test .taken) (l .inv)
+
+same-length : tie.Need-same-length Inv-loop μ-loop
+same-length c = c .before .loop .inv .same
+
+returns : tie.Need-returns Inv-loop μ-loop
+returns c =
+    let l = c .before .loop in
+    filling-end (now (c .before .before .args .times)) 4294967295 (l .i) (l .times) (c .loop-test .left) (l .inv)
+
+pub clear-times-spec : {M : Type 1} → statement M
+clear-times-spec =
+    tie.close
+    (tie.spec
+    Inv-loop
+    μ-loop
+    loop-holds
+    mul-times
+    slice-write-times
+    add-i
+    loop-less
+    loop-again
+    same-length
+    returns)

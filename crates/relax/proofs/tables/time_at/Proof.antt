@@ -1,0 +1,22 @@
+use mathlib.Core.Path.{sym}
+use denote.Ref.{now}
+use lib.ListN.{List·getD-eq-default}
+use Rattle.relax.proofs.Entries.{getD-below}
+use borrow.Author.Needs.{needs}
+use Rattle.relax.proofs.tables.time_at.Statement.{statement}
+use Rattle.relax.proofs.tables.time_at.Tie as tie
+
+mul-result : tie.Need-mul-result
+mul-result c = search needs
+
+shared-slice-read-result : tie.Need-shared-slice-read-result
+shared-slice-read-result c = search needs
+
+returns : tie.Need-returns
+returns c = getD-below (now (c .before .before .args .times)) (c .before .before .args .v) 0 4294967295 (c .before .if1 .taken)
+
+returns-2 : tie.Need-returns-2
+returns-2 c = sym (List·getD-eq-default (now (c .before .args .times)) 4294967295 (c .if1 .left))
+
+pub time-at-spec : {M : Type 1} → statement M
+time-at-spec = tie.close (tie.spec mul-result shared-slice-read-result returns returns-2)

@@ -1,0 +1,41 @@
+use mathlib.Core.Path.{sym, subst}
+use mathlib.Core.Bool.{false}
+use native.Mathlib.Omega.{arith}
+use denote.Ref.{now}
+use Rattle.page.specs.Bytes.{Bytes}
+use Rattle.search.specs.Reply.{lent}
+use Rattle.search.specs.Promises.{TimesAreLeast, PageIsFirstBad}
+use Rattle.search.proofs.Demanded.{times-are-least, page-is-first-bad, same-pages}
+use borrow.Author.Needs.{needs}
+use Rattle.search.proofs.calls.plain.Statement.{statement}
+use Rattle.search.proofs.calls.plain.Tie as tie
+
+search-requires : tie.Need-search-requires
+search-requires c κs = search needs
+
+same-length : tie.Need-same-length
+same-length c = search needs
+
+same-length-2 : tie.Need-same-length-2
+same-length-2 c = search needs
+
+same-length-3 : tie.Need-same-length-3
+same-length-3 c = search needs
+
+same-length-4 : tie.Need-same-length-4
+same-length-4 c = search needs
+
+returns : tie.Need-returns
+returns c =
+    let a = c .before .before .before .before .before .before .before .before .before .before .before .before .before .before .before .before .before .before .args in
+    let image = now (a .image) in
+    let source = a .source in
+    let bytes : Bytes image = λ i. omega (arith, c .before .before .before .before .before .before .before .before .before .before .before .before .before .before .before .before .before .shared-slice-known .given i) in
+    let t = lent (now (a .times)) (now (a .preds)) (now (a .marks)) (now (a .list)) in
+    let is = c .before .before .before .before .before .before .before .before .search .ensures in
+    (is, (subst (TimesAreLeast image source) (sym is) (times-are-least image source bytes false t), (subst (PageIsFirstBad image source) (sym is) (page-is-first-bad image source bytes false t), same-pages image source t false _ is)))
+
+pub plain-spec : {M : Type 1} → statement M
+plain-spec =
+    tie.close
+    (tie.spec search-requires same-length same-length-2 same-length-3 same-length-4 returns)

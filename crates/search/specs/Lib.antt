@@ -1,0 +1,4 @@
+pub mod Map
+pub mod Reply
+pub mod Promises
+pub mod Steps
