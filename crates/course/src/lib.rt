@@ -1,0 +1,1 @@
+// The course cases C1 to C10 (01, "Course maps"), proved from the definitions: proofs/Rows.antt. There is no code here.

@@ -1,0 +1,57 @@
+-- `route::write_stations` writes the trail from its end (proofs/Writing.antt). The measure is the number of places left
+-- to write.
+use borrow.Author.Needs.{needs}
+use Rattle.route.specs.Route.{trail}
+use Rattle.route.proofs.Writing.{Writing, write-start, write-more, write-end}
+use Rattle.route.proofs.write_stations.Statement.{statement}
+use Rattle.route.proofs.write_stations.Tie as tie
+
+abbrev Inv-loop : tie.InvT-loop
+Inv-loop preds station count out₀ v₀ left₀ out v left = Writing preds station count out₀ out v left
+
+abbrev μ-loop : tie.MeasureT-loop
+μ-loop preds station count out₀ v₀ left₀ out v left = left
+
+loop-holds : tie.Need-loop-holds Inv-loop μ-loop
+loop-holds c = write-start _ _ _ _ (c .before .before .pre)
+
+sub-left : tie.Need-sub-left Inv-loop μ-loop
+sub-left c = search needs
+
+mul-out : tie.Need-mul-out Inv-loop μ-loop
+mul-out c = search needs
+
+slice-write-out : tie.Need-slice-write-out Inv-loop μ-loop
+slice-write-out c = search needs
+
+predecessor-at-requires : tie.Need-predecessor-at-requires Inv-loop μ-loop
+predecessor-at-requires c κs = search needs
+
+loop-less : tie.Need-loop-less Inv-loop μ-loop
+loop-less c = search needs
+
+loop-again : tie.Need-loop-again Inv-loop μ-loop
+loop-again c =
+    write-more (c .before .before .loop .inv) (c .before .loop-test .taken) (c .predecessor-at .ensures)
+
+same-length : tie.Need-same-length Inv-loop μ-loop
+same-length c = search needs
+
+returns : tie.Need-returns Inv-loop μ-loop
+returns c = write-end (c .before .loop .inv) (c .loop-test .left)
+
+pub write-stations-spec : {M : Type 1} → statement M
+write-stations-spec =
+    tie.close
+    (tie.spec
+    Inv-loop
+    μ-loop
+    loop-holds
+    sub-left
+    mul-out
+    slice-write-out
+    predecessor-at-requires
+    loop-less
+    loop-again
+    same-length
+    returns)
