@@ -1,5 +1,5 @@
--- The choice on one page, by a walk along the page's stations: between two of them no station passes the test, so that the
--- least below the one is the least below the other. And a turn of the page loop.
+-- The choice on one page, by a walk along the page's stations: between two of them no station passes the test, so that
+-- the least below the one is the least below the other. And a turn of the page loop.
 use mathlib.Core.Path.{_≡_, refl, ap, sym, _∙_}
 use mathlib.Core.Bool.{Bool, true, false, not, _&&_}
 use mathlib.Core.List.{List, [], _∷_}
@@ -20,11 +20,13 @@ use Rattle.page.proofs.Threads.{due-on}
 use Rattle.relax.specs.Tables.{noTime, frame, timesAndMarks}
 
 -- where nobody from n up to m passes, the least below m is the least below n
-least-skips : (key : ℕ → ℕ) (test : ℕ → Bool) (n d : ℕ) → ((j : ℕ) → n ≤ j → j < n + d → test j ≡ false) → least key test (n + d) ≡ least key test n
+least-skips : (key : ℕ → ℕ) (test : ℕ → Bool) (n d : ℕ) → ((j : ℕ) → n ≤ j → j < n + d → test j ≡ false)
+    → least key test (n + d) ≡ least key test n
 unfolding least
 least-skips key test n zero h = ap (least key test) (add-zero n)
 least-skips key test n (suc d) h =
-    ap (least key test) (add-suc n d) ∙ ap (λ b. better key (n + d) b (least key test (n + d))) (h (n + d) (omega arith) (omega arith)) ∙
+    ap (least key test) (add-suc n d) ∙
+    ap (λ b. better key (n + d) b (least key test (n + d))) (h (n + d) (omega arith) (omega arith)) ∙
     least-skips key test n d (λ j l k. h j l (omega arith))
 
 -- before the first station of a page stands none of that page
@@ -63,7 +65,8 @@ module _ (directory : List ℕ) (p : ℕ) (times marks : List ℕ) where
     pub within : v ≤ length directory
     pub on : v < length directory → getD directory v 0 ≡ p
 
-  next-scanned : (best : Choice) (after v : ℕ) → after ≤ length directory → v ≡ nextOn directory p after → best ≡ least key test after → Scanned best v
+  next-scanned : (best : Choice) (after v : ℕ) → after ≤ length directory → v ≡ nextOn directory p after
+      → best ≡ least key test after → Scanned best v
   unfolding nextOn
   next-scanned best after v h e q = record {
     is = q ∙ sym (ap (least key test) e ∙ least-skips key test after (firstOn p (drop after directory))
@@ -75,31 +78,39 @@ module _ (directory : List ℕ) (p : ℕ) (times marks : List ℕ) where
       not-before : (j : ℕ) → after ≤ j → j < after + firstOn p (drop after directory) → getD directory j 0 ≡ p → ⊥
       not-before j l k q =
           let i : j ≡ after + (j - after) = omega arith in
-          first-skips p (drop after directory) (j - after) (omega arith) (getD-drop after directory (j - after) 0 ∙ ap (λ n. getD directory n 0) (sym i) ∙ q)
+          first-skips p (drop after directory) (j - after) (omega arith)
+          (getD-drop after directory (j - after) 0 ∙ ap (λ n. getD directory n 0) (sym i) ∙ q)
 
   module _ (first next : List ℕ) (t : Threaded directory first next) where
     pub scanned-start : p < 256 → Scanned Nobody (getD first p 0)
     unfolding least
     scanned-start h = next-scanned Nobody 0 (getD first p 0) (omega arith) (t .first-on p h) refl
 
-    pub scanned-on : (best more : Choice) (v : ℕ) → Scanned best v → v < length directory → more ≡ better key v (stale v) best → Scanned more (getD next v 0)
+    pub scanned-on : (best more : Choice) (v : ℕ) → Scanned best v → v < length directory
+        → more ≡ better key v (stale v) best → Scanned more (getD next v 0)
     unfolding least
     scanned-on best more v s h e =
         let on = s .on h in
         let passed : more ≡ least key test (v + 1) =
-        e ∙ rw (add-one v) (ap (λ b. better key v (b && stale v) best) (sym (eq-eqb (getD directory v 0) p on)) ∙ ap (better key v (test v)) (s .is)) in
-        next-scanned more (v + 1) (getD next v 0) (omega arith) (t .next-on v h ∙ ap (λ q. nextOn directory q (v + 1)) on) passed
+        e ∙
+        rw (add-one v)
+        (ap (λ b. better key v (b && stale v) best) (sym (eq-eqb (getD directory v 0) p on)) ∙
+        ap (better key v (test v)) (s .is)) in
+        next-scanned more (v + 1) (getD next v 0) (omega arith)
+        (t .next-on v h ∙ ap (λ q. nextOn directory q (v + 1)) on) passed
 
     pub next-rises : (best : Choice) (v : ℕ) → Scanned best v → v < length directory → v < getD next v 0
     unfolding nextOn
     next-rises best v s h = omega (arith, t .next-on v h)
 
-  pub scanned-end : (best : Choice) (v : ℕ) → Scanned best v → length directory ≤ v → best ≡ chooseOn (frame directory) p (timesAndMarks times marks)
+  pub scanned-end : (best : Choice) (v : ℕ) → Scanned best v → length directory ≤ v
+      → best ≡ chooseOn (frame directory) p (timesAndMarks times marks)
   unfolding chooseOn
   scanned-end best v s h = let e : v ≡ length directory = omega (arith, s .within) in s .is ∙ ap (least key test) e
 
 -- One station considered, by whether it is stale.
-module _ (times marks : List ℕ) (v time mark : ℕ) (best : Choice) (stale : Bool) (et : time ≡ getD times v noTime) (em : mark ≡ getD marks v 0)
+module _ (times marks : List ℕ) (v time mark : ℕ) (best : Choice) (stale : Bool) (et : time ≡ getD times v noTime)
+    (em : mark ≡ getD marks v 0)
     (es : stale ≡ (not (leb 2 mark) && ltb time noTime)) where
   is-stale : stale ≡ (not (leb 2 (getD marks v 0)) && ltb (getD times v noTime) noTime)
   is-stale = rw (← et, ← em) es
@@ -109,5 +120,6 @@ module _ (times marks : List ℕ) (v time mark : ℕ) (best : Choice) (stale : B
   considered-stale r e q = q ∙ ap (λ b. better (λ w. getD times w noTime) v b best) (sym e ∙ is-stale)
 
   pub considered-other : stale ≡ false
-      → best ≡ better (λ w. getD times w noTime) v (not (leb 2 (getD marks v 0)) && ltb (getD times v noTime) noTime) best
+      → best
+      ≡ better (λ w. getD times w noTime) v (not (leb 2 (getD marks v 0)) && ltb (getD times v noTime) noTime) best
   considered-other e = ap (λ b. better (λ w. getD times w noTime) v b best) (sym e ∙ is-stale)

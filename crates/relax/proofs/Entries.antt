@@ -28,14 +28,16 @@ module _ (before : List ℕ) (value : ℕ) where
   pub filling-start : Filling before value 0 before
   filling-start = record { done = fill-none before value; same = refl; within = omega arith }
 
-  pub filling-more : (i : ℕ) (table : List ℕ) → i < length table → Filling before value i table → Filling before value (i + 1) (set table i value)
+  pub filling-more : (i : ℕ) (table : List ℕ) → i < length table → Filling before value i table
+      → Filling before value (i + 1) (set table i value)
   filling-more i table h f = record {
     done = ap (λ t. set t i value) (f .done) ∙ fill-more i value before (omega (arith, f .same));
     same = length-set table i value ∙ f .same;
     within = omega (arith, f .same);
   }
 
-  pub filling-end : (i : ℕ) (table : List ℕ) → length table ≤ i → Filling before value i table → table ≡ replicate (length before) value
+  pub filling-end : (i : ℕ) (table : List ℕ) → length table ≤ i → Filling before value i table
+      → table ≡ replicate (length before) value
   filling-end i table h f = filled table before value i (omega (arith, f .same, f .within)) (f .done)
 
 -- The stations below v that have a time.
@@ -46,7 +48,8 @@ pub reached-more : (times : List ℕ) (v n : ℕ) → v < length times → n ≡
     → reachedBelow times v + n ≡ reachedBelow times (v + 1)
 unfolding count
 reached-more times v n h e =
-    rw (add-one v, e, getD-below times v 0 4294967295 h) (add-comm (reachedBelow times v) (one (ltb (getD times v 4294967295) 4294967295)))
+    rw (add-one v, e, getD-below times v 0 4294967295 h)
+    (add-comm (reachedBelow times v) (one (ltb (getD times v 4294967295) 4294967295)))
 
 pub reached-most : (times : List ℕ) (v : ℕ) → reachedBelow times v ≤ v
 unfolding count

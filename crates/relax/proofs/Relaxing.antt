@@ -34,13 +34,15 @@ module _ (times preds marks : List ℕ) (u : ℕ) (m : Move) (from to : ℕ) (ef
   unfolding relax
   relax-lowers t p k h a b c directory pages halt = rw (← ef, ← et, lt-ltb (from + m .time) to h, a, b, c)
 
-  pub relax-ties : (pred : ℕ) (p : List ℕ) → from + m .time ≡ to → pred ≡ getD preds v 65535 → u < pred → p ≡ set preds v u
+  pub relax-ties : (pred : ℕ) (p : List ℕ) → from + m .time ≡ to → pred ≡ getD preds v 65535 → u < pred
+      → p ≡ set preds v u
       → Does relaxed before (tables times p marks)
   unfolding relax
   relax-ties pred p e q h b directory pages halt =
       rw (← ef, ← et, ← q, le-ltb (from + m .time) to (omega arith), eq-eqb (from + m .time) to e, lt-ltb u pred h, b)
 
-  pub relax-not-below : (pred : ℕ) → from + m .time ≡ to → pred ≡ getD preds v 65535 → pred ≤ u → Does relaxed before before
+  pub relax-not-below : (pred : ℕ) → from + m .time ≡ to → pred ≡ getD preds v 65535 → pred ≤ u
+      → Does relaxed before before
   unfolding relax
   relax-not-below pred e q h directory pages halt =
       rw (← ef, ← et, ← q, le-ltb (from + m .time) to (omega arith), eq-eqb (from + m .time) to e, le-ltb u pred h)
@@ -61,19 +63,32 @@ module _ (page : List ℕ) (start u : ℕ) (before : Tables) where
     pub same-preds : length (now .preds) ≡ length (before .preds)
     pub same-marks : length (now .marks) ≡ length (before .marks)
     pub left : (directory pages : List ℕ) (halt : Halt)
-        → relaxing (movesAt page at) (frame directory) (stateOf now pages halt) ≡ relaxing (movesAt page start) (frame directory) (stateOf before pages halt)
+        → relaxing (movesAt page at) (frame directory) (stateOf now pages halt)
+        ≡ relaxing (movesAt page start) (frame directory) (stateOf before pages halt)
 
-  pub walking-start : (tree : List ℕ) → Inside (length (before .times)) (movesAt page start) → Queue tree (before .times) (before .marks) → Walking tree before start
-  walking-start tree i q = record { inside = i; queue = q; same-times = refl; same-preds = refl; same-marks = refl; left = λ directory pages halt. refl }
+  pub walking-start : (tree : List ℕ) → Inside (length (before .times)) (movesAt page start)
+      → Queue tree (before .times) (before .marks) → Walking tree before start
+  walking-start tree i q =
+      record {
+        inside = i;
+        queue = q;
+        same-times = refl;
+        same-preds = refl;
+        same-marks = refl;
+        left = λ directory pages halt. refl;
+      }
 
-  module _ (tree : List ℕ) (now : Tables) (at : ℕ) (w : Walking tree now at) (r : MoveStep) (e : movesAt page at ≡ stepMoves page r) where
+  module _ (tree : List ℕ) (now : Tables) (at : ℕ) (w : Walking tree now at) (r : MoveStep)
+      (e : movesAt page at ≡ stepMoves page r) where
     pub step-inside : (m : Move) (next : ℕ) → r ≡ Next m next → m .target < length (now .times)
     step-inside m next q =
         let i : Inside (length (now .times)) (m ∷ movesAt page next) = rw (e ∙ ap (stepMoves page) q) at (w .inside) in
         i .0
 
-    pub walking-on : (m : Move) (next : ℕ) (tree′ : List ℕ) (after : Tables) → r ≡ Next m next → Does (λ F. relax F ltb u (netMove m)) now after
-        → Queue tree′ (after .times) (after .marks) → length (after .times) ≡ length (now .times) → length (after .preds) ≡ length (now .preds)
+    pub walking-on : (m : Move) (next : ℕ) (tree′ : List ℕ) (after : Tables) → r ≡ Next m next
+        → Does (λ F. relax F ltb u (netMove m)) now after
+        → Queue tree′ (after .times) (after .marks) → length (after .times) ≡ length (now .times)
+        → length (after .preds) ≡ length (now .preds)
         → length (after .marks) ≡ length (now .marks) → Walking tree′ after next
     unfolding relaxAll
     walking-on m next tree′ after q d queue lt lp lm =
@@ -93,16 +108,20 @@ module _ (page : List ℕ) (start u : ℕ) (before : Tables) where
     pub walking-end : r ≡ NoMore → Does (relaxing (movesAt page start)) before now
     unfolding relaxAll
     walking-end q directory pages halt =
-        sym (ap (λ l. relaxing l (frame directory) (stateOf now pages halt)) (e ∙ ap (stepMoves page) q)) ∙ w .left directory pages halt
+        sym (ap (λ l. relaxing l (frame directory) (stateOf now pages halt)) (e ∙ ap (stepMoves page) q)) ∙
+        w .left directory pages halt
 
 -- The queue after a station was lowered.
-pub lowered-queue : (tree times marks : List ℕ) (v sum mark : ℕ) (key : ℕ) (tree′ times′ marks′ : List ℕ) → Queue tree times marks → v < length times
-    → times′ ≡ set times v sum → marks′ ≡ set marks v mark → key ≡ keyOf sum mark v → Put tree v key tree′ → Queue tree′ times′ marks′
+pub lowered-queue : (tree times marks : List ℕ) (v sum mark : ℕ) (key : ℕ) (tree′ times′ marks′ : List ℕ)
+    → Queue tree times marks → v < length times
+    → times′ ≡ set times v sum → marks′ ≡ set marks v mark → key ≡ keyOf sum mark v → Put tree v key tree′
+    → Queue tree′ times′ marks′
 lowered-queue tree times marks v sum mark key tree′ times′ marks′ q h a b k p =
     rw (a, b) (queue-put v sum mark q h (subst (λ n. Put tree v n tree′) k p))
 
 -- An answer of `next_move` leads onward within the page.
-pub steps-onward : (at size : ℕ) (r : MoveStep) (m : Move) (next : ℕ) → StepsOn at size r → r ≡ Next m next → (at < next) × (next ≤ size)
+pub steps-onward : (at size : ℕ) (r : MoveStep) (m : Move) (next : ℕ) → StepsOn at size r → r ≡ Next m next
+    → (at < next) × (next ≤ size)
 steps-onward at size r m next s e = subst (StepsOn at size) e s
 
 -- The queue does not see whether a station is fresh.

@@ -33,7 +33,8 @@ fn lower(
     requires queue { ⌜ Queue (now tree) (now times) (now marks) ⌝ }
     ensures time { λ _. ⌜ now (times .exit) ≡ set (now (times .entry)) v sum ⌝ }
     ensures pred { λ _. ⌜ now (preds .exit) ≡ set (now (preds .entry)) v u ⌝ }
-    ensures mark { λ _. ⌜ now (marks .exit) ≡ set (now (marks .entry)) v (getD (now (marks .entry)) v 0 % 2) ⌝ }
+    ensures mark { λ _. ⌜
+        now (marks .exit) ≡ set (now (marks .entry)) v (getD (now (marks .entry)) v 0 % 2) ⌝ }
     ensures queue { λ _. ⌜ Queue (now (tree .exit)) (now (times .exit)) (now (marks .exit)) ⌝ }
 {
     let mark = mark_at(marks, v) % 2;
@@ -56,7 +57,9 @@ pub fn relax_move(
 )
     requires target { ⌜ step .target < length (now times) ⌝ }
     requires queue { ⌜ Queue (now tree) (now times) (now marks) ⌝ }
-    ensures relaxed { λ _. ⌜ Does (λ F. relax F ltb u (netMove step)) (tables (now (times .entry)) (now (preds .entry)) (now (marks .entry))) (tables (now (times .exit)) (now (preds .exit)) (now (marks .exit))) ⌝ }
+    ensures relaxed { λ _. ⌜ Does (λ F. relax F ltb u (netMove step))
+        (tables (now (times .entry)) (now (preds .entry)) (now (marks .entry)))
+        (tables (now (times .exit)) (now (preds .exit)) (now (marks .exit))) ⌝ }
     ensures queue { λ _. ⌜ Queue (now (tree .exit)) (now (times .exit)) (now (marks .exit)) ⌝ }
 {
     let v = step.target as usize;
@@ -85,7 +88,9 @@ pub fn relax_moves(
 )
     requires targets { ⌜ Inside (length (now times)) (movesAt (now page) start) ⌝ }
     requires queue { ⌜ Queue (now tree) (now times) (now marks) ⌝ }
-    ensures relaxed { λ _. ⌜ Does (λ F. relaxAll F ltb u (map netMove (movesAt (now (page .entry)) start))) (tables (now (times .entry)) (now (preds .entry)) (now (marks .entry))) (tables (now (times .exit)) (now (preds .exit)) (now (marks .exit))) ⌝ }
+    ensures relaxed { λ _. ⌜ Does (λ F. relaxAll F ltb u (map netMove (movesAt (now (page .entry)) start)))
+        (tables (now (times .entry)) (now (preds .entry)) (now (marks .entry)))
+        (tables (now (times .exit)) (now (preds .exit)) (now (marks .exit))) ⌝ }
     ensures queue { λ _. ⌜ Queue (now (tree .exit)) (now (times .exit)) (now (marks .exit)) ⌝ }
 {
     let mut at = start;
@@ -113,7 +118,10 @@ pub fn visit(
     requires station { ⌜ u < length (now times) ⌝ }
     requires targets { ⌜ Inside (length (now times)) (movesAt (now page) start) ⌝ }
     requires queue { ⌜ Queue (now tree) (now times) (now marks) ⌝ }
-    ensures visited { λ _. ⌜ Does (λ F s. relaxAll F ltb u (map netMove (movesAt (now (page .entry)) start)) (markFresh u s)) (tables (now (times .entry)) (now (preds .entry)) (now (marks .entry))) (tables (now (times .exit)) (now (preds .exit)) (now (marks .exit))) ⌝ }
+    ensures visited { λ _. ⌜
+        Does (λ F s. relaxAll F ltb u (map netMove (movesAt (now (page .entry)) start)) (markFresh u s))
+        (tables (now (times .entry)) (now (preds .entry)) (now (marks .entry)))
+        (tables (now (times .exit)) (now (preds .exit)) (now (marks .exit))) ⌝ }
     ensures queue { λ _. ⌜ Queue (now (tree .exit)) (now (times .exit)) (now (marks .exit)) ⌝ }
 {
     let mark = mark_at(marks, u as usize) % 2 + 2;

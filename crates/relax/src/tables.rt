@@ -102,7 +102,8 @@ fn one_if_timed(time: u32) -> usize
 
 // The number of stations that have a time.
 pub fn reached(times: &[u32]) -> usize
-    ensures value { λ r. ⌜ r ≡ count (λ v. ltb (getD (now (times .entry)) v 4294967295) 4294967295) (length (now (times .entry))) ⌝ }
+    ensures value { λ r. ⌜ r ≡ count (λ v. ltb (getD (now (times .entry)) v 4294967295) 4294967295)
+        (length (now (times .entry))) ⌝ }
 {
     let mut n: usize = 0;
     let mut v = 0;

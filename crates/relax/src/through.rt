@@ -45,7 +45,10 @@ fn nearer(times: &[u32], best: Choice, v: usize) -> Choice
 
 // The best so far, with v considered too.
 fn considered(times: &[u32], marks: &[u8], best: Choice, v: usize) -> Choice
-    ensures value { λ r. ⌜ r ≡ better (λ w. getD (now (times .entry)) w 4294967295) v (not (leb 2 (getD (now (marks .entry)) v 0)) && ltb (getD (now (times .entry)) v 4294967295) 4294967295) best ⌝ }
+    ensures value { λ r. ⌜
+        r ≡ better (λ w. getD (now (times .entry)) w 4294967295) v
+        (not (leb 2 (getD (now (marks .entry)) v 0)) && ltb (getD (now (times .entry)) v 4294967295) 4294967295)
+        best ⌝ }
 {
     if is_stale(time_at(times, v), mark_at(marks, v)) {
         return nearer(times, best, v);
@@ -63,7 +66,8 @@ pub fn choose_on(
     marks: &[u8],
 ) -> Choice
     requires threaded { ⌜ Threaded (now directory) (now first) (now next) ⌝ }
-    ensures value { λ r. ⌜ r ≡ chooseOn (frame (now (directory .entry))) p (timesAndMarks (now (times .entry)) (now (marks .entry))) ⌝ }
+    ensures value { λ r. ⌜
+        r ≡ chooseOn (frame (now (directory .entry))) p (timesAndMarks (now (times .entry)) (now (marks .entry))) ⌝ }
 {
     let size = directory.len();
     let mut best = Choice::Nobody;
@@ -97,9 +101,15 @@ pub fn work_through(
 )
     requires threaded { ⌜ Threaded (now directory) (now first) (now next) ⌝ }
     requires size { ⌜ length (now times) ≡ length (now directory) ⌝ }
-    requires targets { ⌜ ((u : ℕ) → u < length (now directory) → getD (now directory) u 0 ≡ p → Inside (length (now directory)) (movesAt (now page) (getD (now starts) u 0))) ⌝ }
+    requires targets { ⌜
+        ((u : ℕ) → u < length (now directory) → getD (now directory) u 0 ≡ p → Inside (length (now directory))
+        (movesAt (now page) (getD (now starts) u 0))) ⌝ }
     requires queue { ⌜ Queue (now tree) (now times) (now marks) ⌝ }
-    ensures worked { λ _. ⌜ ((moves : ℕ → List NetMove) → Located (now (directory .entry)) p (now (page .entry)) (now (starts .entry)) moves → DoesOn (now (directory .entry)) (λ F. workThrough F ltb p moves) (tables (now (times .entry)) (now (preds .entry)) (now (marks .entry))) (tables (now (times .exit)) (now (preds .exit)) (now (marks .exit)))) ⌝ }
+    ensures worked { λ _. ⌜
+        ((moves : ℕ → List NetMove) → Located (now (directory .entry)) p (now (page .entry)) (now (starts .entry))
+        moves → DoesOn (now (directory .entry)) (λ F. workThrough F ltb p moves)
+        (tables (now (times .entry)) (now (preds .entry)) (now (marks .entry)))
+        (tables (now (times .exit)) (now (preds .exit)) (now (marks .exit)))) ⌝ }
     ensures queue { λ _. ⌜ Queue (now (tree .exit)) (now (times .exit)) (now (marks .exit)) ⌝ }
 {
     let mut turn: usize = 0;

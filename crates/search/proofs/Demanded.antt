@@ -1,5 +1,6 @@
--- The demands, of what a search hands back. A call is refused by 1 to 7, or its map is a sound net and the laws of the net
--- speak of it: the tables' first N entries are those of the net's search, and the list's first entries its page list.
+-- The demands, of what a search hands back. A call is refused by 1 to 7, or its map is a sound net and the laws of the
+-- net speak of it: the tables' first N entries are those of the net's search, and the list's first entries its page
+-- list.
 use mathlib.Core.Path.{_≡_, refl, ap, sym, _∙_, subst}
 use mathlib.Core.Logic.{_⊎_, inl, inr, ⊎-elim}
 use mathlib.Core.Bool.{Bool, true, false}
@@ -14,17 +15,21 @@ use Rattle.net.specs.Search.{pick, State, Halt, going, reached, plainSearch, df
 use Rattle.net.specs.Search.{refused as halted}
 use Rattle.net.specs.Demands.{LeastTimes, RefusedPage, AgreeOn}
 use Rattle.net.proofs.Sound.{Sound}
-use Rattle.net.proofs.Laws.{plain-sizes, df-sizes, plain-least-times, df-least-times, plain-refused, df-refused, df-list, plain-local, df-local}
+use Rattle.net.proofs.Laws.{plain-sizes, df-sizes, plain-least-times, df-least-times, plain-refused, df-refused}
+use Rattle.net.proofs.Laws.{df-list, plain-local, df-local}
 use Rattle.page.specs.Bytes.{Bytes}
-use Rattle.page.specs.Image.{Outcome, Place, nowhere, stationCount, headingCheck, AgreeOnHeading, AgreeOnDirectory, AgreeOnPage}
+use Rattle.page.specs.Image.{Outcome, Place, nowhere, stationCount, headingCheck, AgreeOnHeading, AgreeOnDirectory}
+use Rattle.page.specs.Image.{AgreeOnPage}
 use Rattle.page.specs.Image.{accepted as well-formed, refused as ill-formed}
 use Rattle.page.proofs.Judging.{never}
 use Rattle.page.proofs.Heading.{formed}
 use Rattle.page.proofs.Agree.{stations-agree, heading-agrees, reading-agrees}
 use Rattle.relax.specs.Tables.{frame}
 use Rattle.search.specs.Map.{mapFrame, offered, mapPage}
-use Rattle.search.specs.Reply.{accepted, refused, page-refused, Lent, Handed, handed, ended, tooShort, onMap, afterHeading, searched, listOf}
-use Rattle.search.specs.Promises.{TimesAreLeast, PageIsFirstBad, SameLengths, ListAgainstDijkstra, SameOnListedPages}
+use Rattle.search.specs.Reply.{accepted, refused, page-refused, Lent, Handed, handed, ended, tooShort, onMap}
+use Rattle.search.specs.Reply.{afterHeading, searched, listOf}
+use Rattle.search.specs.Promises.{TimesAreLeast, PageIsFirstBad, SameLengths, ListAgainstDijkstra}
+use Rattle.search.specs.Promises.{SameOnListedPages}
 use Rattle.search.specs.Steps.{searchOf}
 use Rattle.search.proofs.Soundness.{image-sound}
 
@@ -48,21 +53,28 @@ module _ (image : List ℕ) (source : ℕ) where
 
   -- a call is refused before any page, or it is the search on the map
   Told : (Frame → (ℕ → Page) → ℕ → State) → Lent → Handed → Type 0
-  Told search t h = ((number : ℕ) × (place : Place) × (h ≡ handed (refused number place) t)) ⊎ (Ready t × (h ≡ onMap search image source t))
+  Told search t h =
+      ((number : ℕ) × (place : Place) × (h ≡ handed (refused number place) t)) ⊎
+      (Ready t × (h ≡ onMap search image source t))
 
   told : (search : Frame → (ℕ → Page) → ℕ → State) (t : Lent) → Told search t (searched search image source t)
   unfolding searched Told
   told search t = by-heading (headingCheck image) refl
     where
-      by-tables : (a b : Bool) → headingCheck image ≡ well-formed → leb (stationCount image) source ≡ a → tooShort (stationCount image) t ≡ b
-          → Told search t (pick a (handed (refused 6 nowhere) t) (pick b (handed (refused 7 nowhere) t) (onMap search image source t)))
+      by-tables : (a b : Bool) → headingCheck image ≡ well-formed → leb (stationCount image) source ≡ a
+          → tooShort (stationCount image) t ≡ b
+          → Told search t
+          (pick a (handed (refused 6 nowhere) t)
+          (pick b (handed (refused 7 nowhere) t) (onMap search image source t)))
       by-tables true b e x y = inl (6, nowhere, refl)
       by-tables false true e x y = inl (7, nowhere, refl)
-      by-tables false false e x y = inr (record { heading = e; inside = leb-false (stationCount image) source x; long = y }, refl)
+      by-tables false false e x y =
+          inr (record { heading = e; inside = leb-false (stationCount image) source x; long = y }, refl)
 
       by-heading : (o : Outcome) → headingCheck image ≡ o → Told search t (afterHeading search image source t o)
       by-heading (ill-formed number place) e = inl (number, place, refl)
-      by-heading well-formed e = by-tables (leb (stationCount image) source) (tooShort (stationCount image) t) e refl refl
+      by-heading well-formed e =
+          by-tables (leb (stationCount image) source) (tooShort (stationCount image) t) e refl refl
 
   module _ (bytes : Bytes image) where
     sound-of : (t : Lent) → Ready t → Sound F page source
@@ -70,27 +82,36 @@ module _ (image : List ℕ) (source : ℕ) where
 
     -- both searches' laws, by the flag
     least-of : (df : Bool) → Sound F page source → (searchOf df F page source) .halt ≡ going
-        → LeastTimes F page source ((searchOf df F page source) .times) ((searchOf df F page source) .preds) (reached F (searchOf df F page source))
+        → LeastTimes F page source ((searchOf df F page source) .times) ((searchOf df F page source) .preds)
+        (reached F (searchOf df F page source))
     least-of true ok = df-least-times F page source ok
     least-of false ok = plain-least-times F page source ok
 
-    refused-of : (df : Bool) → Sound F page source → (number p offset : ℕ) → (searchOf df F page source) .halt ≡ halted number p offset
-        → RefusedPage F page source number p offset × ((before : List ℕ) × ((searchOf df F page source) .pages ≡ before ++ (p ∷ [])))
+    refused-of : (df : Bool) → Sound F page source → (number p offset : ℕ)
+        → (searchOf df F page source) .halt ≡ halted number p offset
+        → RefusedPage F page source number p offset
+        × ((before : List ℕ) × ((searchOf df F page source) .pages ≡ before ++ (p ∷ [])))
     refused-of true ok = df-refused F page source ok
     refused-of false ok = plain-refused F page source ok
 
     sizes-of : (df : Bool) → Sound F page source
-        → (length ((searchOf df F page source) .times) ≡ F .size) × (length ((searchOf df F page source) .preds) ≡ F .size)
+        → (length ((searchOf df F page source) .times) ≡ F .size)
+        × (length ((searchOf df F page source) .preds) ≡ F .size)
     sizes-of true ok = let z = df-sizes F page source ok in (z .times, z .preds)
     sizes-of false ok = let z = plain-sizes F page source ok in (z .times, z .preds)
 
     -- demand 2
-    ended-least : (t : Lent) (h : Halt) (s : State) (n count r : ℕ) → s .halt ≡ h → length (s .times) ≡ n → length (s .preds) ≡ n
-        → (ended h F s t) .reply ≡ accepted count r → (s .halt ≡ going → LeastTimes F page source (s .times) (s .preds) (reached F s))
+    ended-least : (t : Lent) (h : Halt) (s : State) (n count r : ℕ) → s .halt ≡ h → length (s .times) ≡ n
+        → length (s .preds) ≡ n
+        → (ended h F s t) .reply ≡ accepted count r
+        → (s .halt ≡ going → LeastTimes F page source (s .times) (s .preds) (reached F s))
         → LeastTimes F page source (take n ((ended h F s t) .tables .times)) (take n ((ended h F s t) .tables .preds)) r
     ended-least t going s n count r e a b q l =
         let same : reached F s ≡ r = cc in
-        rw (take-at (s .times) (drop (length (s .times)) (t .times)) n a, take-at (s .preds) (drop (length (s .preds)) (t .preds)) n b)
+        rw (
+          take-at (s .times) (drop (length (s .times)) (t .times)) n a,
+          take-at (s .preds) (drop (length (s .preds)) (t .preds)) n b,
+        )
         (subst (LeastTimes F page source (s .times) (s .preds)) same (l e))
     ended-least t (halted number p offset) s n count r e a b q l = never (cc)
 
@@ -108,9 +129,12 @@ module _ (image : List ℕ) (source : ℕ) where
         (told (searchOf df) t)
 
     -- which page is refused
-    ended-refused : (t : Lent) (h : Halt) (s : State) (number p offset count : ℕ) → s .halt ≡ h → (ended h F s t) .reply ≡ page-refused number p offset count
-        → ((n q o : ℕ) → s .halt ≡ halted n q o → RefusedPage F page source n q o × ((before : List ℕ) × (s .pages ≡ before ++ (q ∷ []))))
-        → RefusedPage F page source number p offset × ((before : List ℕ) × (listOf (ended h F s t) ≡ before ++ (p ∷ [])))
+    ended-refused : (t : Lent) (h : Halt) (s : State) (number p offset count : ℕ) → s .halt ≡ h
+        → (ended h F s t) .reply ≡ page-refused number p offset count
+        → ((n q o : ℕ) → s .halt ≡ halted n q o
+        → RefusedPage F page source n q o × ((before : List ℕ) × (s .pages ≡ before ++ (q ∷ []))))
+        → RefusedPage F page source number p offset
+        × ((before : List ℕ) × (listOf (ended h F s t) ≡ before ++ (p ∷ [])))
     ended-refused t going s number p offset count e q l = never (cc)
     ended-refused t (halted n b o) s number p offset count e q l =
         let a : n ≡ number = cc in
@@ -125,18 +149,23 @@ module _ (image : List ℕ) (source : ℕ) where
         (λ k. never (let z = sym (ap (λ (h : Handed). h .reply) (k .2)) ∙ e in cc))
         (λ k.
         let s = searchOf df F page source in
-        rw (k .1) (ended-refused t (s .halt) s number p offset count refl (sym (ap (λ (h : Handed). h .reply) (k .1)) ∙ e) (refused-of df (sound-of t (k .0)))))
+        let replied = sym (ap (λ (h : Handed). h .reply) (k .1)) ∙ e in
+        rw (k .1)
+        (ended-refused t (s .halt) s number p offset count refl replied (refused-of df (sound-of t (k .0)))))
         (told (searchOf df) t)
 
     -- demand 3, our list against Dijkstra's
-    ended-going : (t : Lent) (h : Halt) (s : State) (count r : ℕ) → (ended h F s t) .reply ≡ accepted count r → h ≡ going
+    ended-going : (t : Lent) (h : Halt) (s : State) (count r : ℕ) → (ended h F s t) .reply ≡ accepted count r
+        → h ≡ going
     ended-going t going s count r e = refl
     ended-going t (halted n b o) s count r e = never (cc)
 
-    ready-same : (t other : Lent) → SameLengths image source t other → Ready t → searched plainSearch image source other ≡ onMap plainSearch image source other
+    ready-same : (t other : Lent) → SameLengths t other → Ready t
+        → searched plainSearch image source other ≡ onMap plainSearch image source other
     unfolding searched
     ready-same t other z r =
-        let long : tooShort (stationCount image) other ≡ false = rw (← (z .times), ← (z .preds), ← (z .marks), ← (z .list)) (r .long) in
+        let long : tooShort (stationCount image) other ≡ false =
+        rw (← (z .times), ← (z .preds), ← (z .marks), ← (z .list)) (r .long) in
         let in-map : leb (stationCount image) source ≡ false = lt-leb (stationCount image) source (r .inside) in
         rw (r .heading, in-map, long)
 
@@ -149,54 +178,74 @@ module _ (image : List ℕ) (source : ℕ) where
         let d = dfSearch F page source in
         let p = plainSearch F page source in
         let on = ended-going t (d .halt) d count r (sym (ap (λ (h : Handed). h .reply) (k .1)) ∙ e) in
-        rw (k .1, ready-same t other same (k .0), listed (d .halt) F d t, listed (p .halt) F p other) (df-list F page source ok on))
+        rw (k .1, ready-same t other same (k .0), listed (d .halt) F d t, listed (p .halt) F p other)
+        (df-list F page source ok on))
         (told dfSearch t)
 
 -- demand 3, two images
-module _ (image other : List ℕ) (source : ℕ) (lengths : length image ≡ length other) (heading : AgreeOnHeading image other)
+module _ (image other : List ℕ) (source : ℕ) (lengths : length image ≡ length other)
+    (heading : AgreeOnHeading image other)
     (directory : AgreeOnDirectory image other) (t : Lent) where
-  local-of : (df : Bool) (G : Frame) (f g : ℕ → Page) → AgreeOn ((searchOf df G f source) .pages) f g → searchOf df G f source ≡ searchOf df G g source
+  local-of : (df : Bool) (G : Frame) (f g : ℕ → Page) → AgreeOn ((searchOf df G f source) .pages) f g
+      → searchOf df G f source ≡ searchOf df G g source
   local-of true G f g = df-local G f g source
   local-of false G f g = plain-local G f g source
 
-  on-map-same : (df : Bool) → ((p : ℕ) → List·Memᴰ p ((searchOf df (mapFrame image) (mapPage image) source) .pages) → AgreeOnPage p image other)
+  on-map-same : (df : Bool)
+      → ((p : ℕ) → List·Memᴰ p ((searchOf df (mapFrame image) (mapPage image) source) .pages)
+      → AgreeOnPage p image other)
       → onMap (searchOf df) image source t ≡ onMap (searchOf df) other source t
   unfolding onMap mapPage
   on-map-same df agree =
       let same = local-of df (mapFrame image) (mapPage image) (mapPage other)
       (λ p m. ap offered (reading-agrees image other p directory (agree p m))) in
       ap (λ (s : State). ended (s .halt) (mapFrame image) s t) same ∙
-      ap (λ d. ended ((searchOf df (frame d) (mapPage other) source) .halt) (frame d) (searchOf df (frame d) (mapPage other) source) t) directory
+      ap
+      (λ d.
+      ended ((searchOf df (frame d) (mapPage other) source) .halt) (frame d)
+      (searchOf df (frame d) (mapPage other) source) t) directory
 
   after-same : (df : Bool) (o : Outcome)
-      → (leb (stationCount image) source ≡ false → tooShort (stationCount image) t ≡ false → o ≡ well-formed → onMap (searchOf df) image source t ≡ onMap (searchOf df) other source t)
+      → (leb (stationCount image) source ≡ false → tooShort (stationCount image) t ≡ false → o ≡ well-formed
+      → onMap (searchOf df) image source t ≡ onMap (searchOf df) other source t)
       → afterHeading (searchOf df) image source t o ≡ afterHeading (searchOf df) other source t o
   after-same df (ill-formed number place) m = refl
-  after-same df well-formed m = rw (← (stations-agree image other heading)) (go (leb (stationCount image) source) (tooShort (stationCount image) t) refl refl)
+  after-same df well-formed m =
+      rw (← (stations-agree image other heading))
+      (go (leb (stationCount image) source) (tooShort (stationCount image) t) refl refl)
     where
       go : (a b : Bool) → leb (stationCount image) source ≡ a → tooShort (stationCount image) t ≡ b
-          → pick a (handed (refused 6 nowhere) t) (pick b (handed (refused 7 nowhere) t) (onMap (searchOf df) image source t))
-          ≡ pick a (handed (refused 6 nowhere) t) (pick b (handed (refused 7 nowhere) t) (onMap (searchOf df) other source t))
+          → pick a (handed (refused 6 nowhere) t)
+          (pick b (handed (refused 7 nowhere) t) (onMap (searchOf df) image source t))
+          ≡ pick a (handed (refused 6 nowhere) t)
+          (pick b (handed (refused 7 nowhere) t) (onMap (searchOf df) other source t))
       go true b x y = refl
       go false true x y = refl
       go false false x y = m x y refl
 
-  pub same-on-listed-pages : (df : Bool) → ((p : ℕ) → List·Memᴰ p (listOf (searched (searchOf df) image source t)) → AgreeOnPage p image other)
+  pub same-on-listed-pages : (df : Bool)
+      → ((p : ℕ) → List·Memᴰ p (listOf (searched (searchOf df) image source t)) → AgreeOnPage p image other)
       → searched (searchOf df) image source t ≡ searched (searchOf df) other source t
   unfolding searched onMap
   same-on-listed-pages df agree =
       after-same df (headingCheck image) on-map ∙
       ap (afterHeading (searchOf df) other source t) (heading-agrees image other lengths heading directory)
     where
-      listing : leb (stationCount image) source ≡ false → tooShort (stationCount image) t ≡ false → headingCheck image ≡ well-formed
-          → listOf (afterHeading (searchOf df) image source t (headingCheck image)) ≡ (searchOf df (mapFrame image) (mapPage image) source) .pages
-      listing x y e = rw (e, x, y) (let s = searchOf df (mapFrame image) (mapPage image) source in listed (s .halt) (mapFrame image) s t)
+      listing : leb (stationCount image) source ≡ false → tooShort (stationCount image) t ≡ false
+          → headingCheck image ≡ well-formed
+          → listOf (afterHeading (searchOf df) image source t (headingCheck image))
+          ≡ (searchOf df (mapFrame image) (mapPage image) source) .pages
+      listing x y e =
+          rw (e, x, y)
+          (let s = searchOf df (mapFrame image) (mapPage image) source in listed (s .halt) (mapFrame image) s t)
 
-      on-map : leb (stationCount image) source ≡ false → tooShort (stationCount image) t ≡ false → headingCheck image ≡ well-formed
+      on-map : leb (stationCount image) source ≡ false → tooShort (stationCount image) t ≡ false
+          → headingCheck image ≡ well-formed
           → onMap (searchOf df) image source t ≡ onMap (searchOf df) other source t
       on-map x y e = on-map-same df (λ p m. agree p (rw (listing x y e) m))
 
-pub same-pages : (image : List ℕ) (source : ℕ) (t : Lent) (df : Bool) (h : Handed) → h ≡ searched (searchOf df) image source t
+pub same-pages : (image : List ℕ) (source : ℕ) (t : Lent) (df : Bool) (h : Handed)
+    → h ≡ searched (searchOf df) image source t
     → SameOnListedPages image source (searchOf df) t h
 same-pages image source t df h e other lengths heading directory agree =
     e ∙ same-on-listed-pages image other source lengths heading directory t df (λ p m. agree p (rw e m))

@@ -1,5 +1,6 @@
--- A whole search on exact tables hands back what the definition says: its start is the definition's, its steps are those with
--- the one comparison, which are those by the letter, and its end leaves the tables as the definition's end does.
+-- A whole search on exact tables hands back what the definition says: its start is the definition's, its steps are
+-- those with the one comparison, which are those by the letter, and its end leaves the tables as the definition's end
+-- does.
 use mathlib.Core.Path.{_≡_, refl, ap, sym, _∙_, subst}
 use mathlib.Core.Bool.{Bool, true, false}
 use mathlib.Core.List.{List, [], _++_, append-nil}
@@ -27,22 +28,27 @@ module _ (source size : ℕ) (few : size ≤ 2048) (small : source < size) where
   pub empty-at : (tree : List ℕ) → tree ≡ replicate 4096 nobody → Tree tree
   empty-at tree e = rw e empty-tree
 
-  pub begun-queue : (tree after times marks : List ℕ) (key : ℕ) → tree ≡ replicate 4096 nobody → key ≡ source → Put tree source key after
+  pub begun-queue : (tree after times marks : List ℕ) (key : ℕ) → tree ≡ replicate 4096 nobody → key ≡ source
+      → Put tree source key after
       → times ≡ set (replicate size noTime) source 0 → marks ≡ replicate size 0 → Queue after times marks
   unfolding keyOf
   begun-queue tree after times marks key e k p a b =
       let q : key ≡ keyOf 0 0 source = k ∙ sym (zero-add source) in
-      rw (a, b) (queue-start size source few small (subst (λ t. Put t source (keyOf 0 0 source) after) e (subst (λ n. Put tree source n after) q p)))
+      rw (a, b)
+      (queue-start size source few small
+      (subst (λ t. Put t source (keyOf 0 0 source) after) e (subst (λ n. Put tree source n after) q p)))
 
 -- The end.
 module _ (t after : Tables) where
-  pub left-on : (stood : Step) (c n : ℕ) → stood ≡ On c → n ≡ countBelow (λ v. ltb (getD (t .times) v noTime) noTime) (length (t .times))
+  pub left-on : (stood : Step) (c n : ℕ) → stood ≡ On c
+      → n ≡ countBelow (λ v. ltb (getD (t .times) v noTime) noTime) (length (t .times))
       → after .times ≡ t .times → after .preds ≡ t .preds → after .marks ≡ replicate (length (t .marks)) 0
       → (accepted c n ≡ replyOf stood (t .times)) × Left stood t after
   left-on stood c n e q a b d = rw e (ap (accepted c) q, (a, b, d))
 
   pub left-stopped : (stood : Step) (number p offset c : ℕ) → stood ≡ Stopped number p offset c
-      → after .times ≡ replicate (length (t .times)) noTime → after .preds ≡ replicate (length (t .preds)) noPred → after .marks ≡ replicate (length (t .marks)) 0
+      → after .times ≡ replicate (length (t .times)) noTime → after .preds ≡ replicate (length (t .preds)) noPred
+      → after .marks ≡ replicate (length (t .marks)) 0
       → (page-refused number p offset c ≡ replyOf stood (t .times)) × Left stood t after
   left-stopped stood number p offset c e a b d = rw e (refl, (a, b, d))
 
@@ -54,17 +60,20 @@ same-handed p q s u v = cc
 over-exact : (front table : List ℕ) → length table ≡ length front → front ≡ over front table
 over-exact front table e = sym (rw (← e, drop-length table) (append-nil front))
 
-over-list : (list list₀ : List ℕ) (c : ℕ) → c ≤ length list → drop c list ≡ drop c list₀ → list ≡ over (take c list) list₀
+over-list : (list list₀ : List ℕ) (c : ℕ) → c ≤ length list → drop c list ≡ drop c list₀
+    → list ≡ over (take c list) list₀
 over-list list list₀ c h e =
     let n : length (take c list) ≡ c = length-take-le c list h in
     sym (take-append-drop c list) ∙ ap (λ r. take c list ++ r) e ∙ ap (λ k. take c list ++ drop k list₀) (sym n)
 
-module _ (df : Bool) (image : List ℕ) (source : ℕ) (sound : Sound (mapFrame image) (mapPage image) source) (before : Lent) where
+module _ (df : Bool) (image : List ℕ) (source : ℕ) (sound : Sound (mapFrame image) (mapPage image) source)
+    (before : Lent) where
   abbrev N : ℕ
   N = length (directoryOf image)
 
   -- the steps with the one comparison, from the start, are the search by the letter
-  by-letter : (d : Bool) → stepsOf d image N (start (mapFrame image) source) ≡ searchOf d (mapFrame image) (mapPage image) source
+  by-letter : (d : Bool)
+      → stepsOf d image N (start (mapFrame image) source) ≡ searchOf d (mapFrame image) (mapPage image) source
   unfolding searchBy
   by-letter true = sym (df-one-comparison (mapFrame image) (mapPage image) source sound)
   by-letter false = sym (plain-one-comparison (mapFrame image) (mapPage image) source sound)
@@ -86,16 +95,24 @@ module _ (df : Bool) (image : List ℕ) (source : ℕ) (sound : Sound (mapFrame 
   abbrev timed : List ℕ → ℕ → ℕ
   timed times n = countBelow (λ v. ltb (getD times v noTime) noTime) n
 
-  marks-cleared : (marks : List ℕ) (n : ℕ) → n ≡ N → length (before .marks) ≡ N → marks ≡ replicate n 0 → marks ≡ over (replicate N 0) (before .marks)
-  marks-cleared marks n e z m = m ∙ ap (λ k. replicate k 0) e ∙ over-exact (replicate N 0) (before .marks) (z ∙ sym (length-replicate {A = ℕ} N 0))
+  marks-cleared : (marks : List ℕ) (n : ℕ) → n ≡ N → length (before .marks) ≡ N → marks ≡ replicate n 0
+      → marks ≡ over (replicate N 0) (before .marks)
+  marks-cleared marks n e z m =
+      m ∙
+      ap (λ k. replicate k 0) e ∙
+      over-exact (replicate N 0) (before .marks) (z ∙ sym (length-replicate {A = ℕ} N 0))
 
-  ended-is : (stood : Step) (after final : Tables) (list : List ℕ) (reply : Reply) → Sizes after list (countOf stood) → reply ≡ replyOf stood (after .times)
+  ended-is : (stood : Step) (after final : Tables) (list : List ℕ) (reply : Reply) → Sizes after list (countOf stood)
+      → reply ≡ replyOf stood (after .times)
       → Left stood after final
-      → handed reply (lent (final .times) (final .preds) (final .marks) list) ≡ ended (haltOf stood) (mapFrame image) (standing after list stood) before
+      → handed reply (lent (final .times) (final .preds) (final .marks) list)
+      ≡ ended (haltOf stood) (mapFrame image) (standing after list stood) before
   unfolding reached
   ended-is (On c) after final list reply z e l =
       same-handed
-      (e ∙ ap (λ k. accepted c (timed (after .times) k)) (z .times) ∙ ap (λ k. accepted k (timed (after .times) N)) (sym (length-take-le c list (z .list-long))))
+      (e ∙
+      ap (λ k. accepted c (timed (after .times) k)) (z .times) ∙
+      ap (λ k. accepted k (timed (after .times) N)) (sym (length-take-le c list (z .list-long))))
       (l .0 ∙ over-exact (after .times) (before .times) (z .lent-times ∙ sym (z .times)))
       (l .1 ∙ over-exact (after .preds) (before .preds) (z .lent-preds ∙ sym (z .preds)))
       (marks-cleared (final .marks) (length (after .marks)) (z .marks) (z .lent-marks) (l .2))
@@ -103,8 +120,12 @@ module _ (df : Bool) (image : List ℕ) (source : ℕ) (sound : Sound (mapFrame 
   ended-is (Stopped number p offset c) after final list reply z e l =
       same-handed
       (e ∙ ap (page-refused number p offset) (sym (length-take-le c list (z .list-long))))
-      (l .0 ∙ ap (λ k. replicate k noTime) (z .times) ∙ over-exact (replicate N noTime) (before .times) (z .lent-times ∙ sym (length-replicate N noTime)))
-      (l .1 ∙ ap (λ k. replicate k noPred) (z .preds) ∙ over-exact (replicate N noPred) (before .preds) (z .lent-preds ∙ sym (length-replicate N noPred)))
+      (l .0 ∙
+      ap (λ k. replicate k noTime) (z .times) ∙
+      over-exact (replicate N noTime) (before .times) (z .lent-times ∙ sym (length-replicate N noTime)))
+      (l .1 ∙
+      ap (λ k. replicate k noPred) (z .preds) ∙
+      over-exact (replicate N noPred) (before .preds) (z .lent-preds ∙ sym (length-replicate N noPred)))
       (marks-cleared (final .marks) (length (after .marks)) (z .marks) (z .lent-marks) (l .2))
       (over-list list (before .list) c (z .list-long) (z .list-kept))
 

@@ -1,12 +1,13 @@
--- What a search notes of the pages that it has read: a page found good is noted, and noting one page leaves the others as
--- they are, since no station is on two pages.
+-- What a search notes of the pages that it has read: a page found good is noted, and noting one page leaves the others
+-- as they are, since no station is on two pages.
 use mathlib.Core.Path.{_≡_, refl, ap, sym, _∙_}
 use mathlib.Core.Logic.{_≢_, dite}
 use mathlib.Core.List.{List}
 use Prim.Native.Nat.{ℕ, _+_, _*_, _≤_, _<_}
 use native.Mathlib.Decide.{ℕ-discrete}
 use native.Mathlib.Omega.{arith}
-use lib.ListN.{length, drop, set, replicate, length-set, length-replicate, List·getD-eq-default, getD-replicate, length-take}
+use lib.ListN.{length, drop, set, replicate, length-set, length-replicate, List·getD-eq-default, getD-replicate}
+use lib.ListN.{length-take}
 use lib.Seq.{getD-set-other, getD-take, getD-drop}
 use Rattle.net.proofs.Basics.Tests.{le-or-lt}
 use mathlib.Core.Logic.{⊎-elim}
@@ -26,7 +27,11 @@ use Rattle.search.specs.Steps.{Noted, Known}
 -- a part of bytes is bytes
 pub bytes-part : (s : List ℕ) (from count : ℕ) → Bytes s → Bytes (part s from count)
 bytes-part s from count b i = ⊎-elim
-    (λ past. omega (arith, List·getD-eq-default (part s from count) 0 {n = i} (omega (arith, length-take count (drop from s)))))
+    (λ past.
+    omega (
+      arith,
+      List·getD-eq-default (part s from count) 0 {n = i} (omega (arith, length-take count (drop from s))),
+    ))
     (λ inside. omega (arith, getD-take count (drop from s) i 0 inside, getD-drop from s i 0, b (from + i)))
     (le-or-lt count i)
 
@@ -34,15 +39,18 @@ pub bytes-page : (image : List ℕ) (p : ℕ) → Bytes image → Bytes (pageByt
 unfolding pageBytes
 bytes-page image p b = bytes-part image (4 + stationCount image + 256 * p) 256 b
 
-good-reading : (r : Reading) → verdictOf r ≡ Good → (moves : List Move) × (stations : List Leaving) × (r ≡ good moves stations)
+good-reading : (r : Reading) → verdictOf r ≡ Good
+    → (moves : List Move) × (stations : List Leaving) × (r ≡ good moves stations)
 good-reading (good moves stations) e = (moves, stations, refl)
 good-reading (bad number offset) e = never (cc)
 
 -- a known page is good
-pub noted-verdict : (image : List ℕ) (p : ℕ) (starts : List ℕ) → Noted image p starts → Good ≡ verdictOf (readingOf image p)
+pub noted-verdict : (image : List ℕ) (p : ℕ) (starts : List ℕ) → Noted image p starts
+    → Good ≡ verdictOf (readingOf image p)
 noted-verdict image p starts n = sym (ap verdictOf (n .reads))
 
-module _ (image : List ℕ) (bytes : Bytes image) (few : length (directoryOf image) ≤ 2048) (p : ℕ) (known starts : List ℕ) (k : Known image known starts)
+module _ (image : List ℕ) (bytes : Bytes image) (few : length (directoryOf image) ≤ 2048) (p : ℕ)
+    (known starts : List ℕ) (k : Known image known starts)
     (v : verdictOf (readingOf image p) ≡ Good) where
   abbrev after : List ℕ
   after = startsNoted (pageBytes image p) starts
@@ -55,7 +63,10 @@ module _ (image : List ℕ) (bytes : Bytes image) (few : length (directoryOf ima
         moves = g .0;
         stations = g .1;
         reads = g .2;
-        leads = λ u h e. starts-found (directoryOf image) p (pageBytes image p) (bytes-page image p bytes) (g .0) (g .1) (g .2) starts u h e (omega (arith, k .stations));
+        leads =
+            λ u h e.
+            starts-found (directoryOf image) p (pageBytes image p) (bytes-page image p bytes) (g .0) (g .1) (g .2)
+            starts u h e (omega (arith, k .stations));
       }
 
   -- another page's stations keep what was noted for them
@@ -68,8 +79,10 @@ module _ (image : List ℕ) (bytes : Bytes image) (few : length (directoryOf ima
         stations = n .stations;
         reads = n .reads;
         leads = λ u h e.
-            rw (starts-kept (directoryOf image) p (pageBytes image p) (bytes-page image p bytes) (g .0) (g .1) (g .2) starts u (λ q′. ne (sym e ∙ q′)))
-            (n .leads u h e);
+            let kept =
+            starts-kept (directoryOf image) p (pageBytes image p) (bytes-page image p bytes) (g .0) (g .1) (g .2)
+            starts u (λ q′. ne (sym e ∙ q′)) in
+            rw kept (n .leads u h e);
       }
 
   pub known-more : p < 256 → Known image (set known p 1) after
@@ -90,7 +103,8 @@ known-none image = record {
 }
 
 -- the reader's answer on the parts of the image
-pub fetched : (image directory page : List ℕ) (p : ℕ) (r : Verdict) → directory ≡ directoryOf image → page ≡ pageBytes image p
+pub fetched : (image directory page : List ℕ) (p : ℕ) (r : Verdict) → directory ≡ directoryOf image
+    → page ≡ pageBytes image p
     → r ≡ verdictOf (readPage directory p page) → r ≡ verdictOf (readingOf image p)
 unfolding readingOf
 fetched image directory page p r d b e = rw (← d, ← b) e

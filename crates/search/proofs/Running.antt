@@ -1,6 +1,6 @@
--- The loop of a search: the steps that are left take the tables where all steps take those at the start. The queue's first
--- station is the one that the definition chooses; where nobody is left, or a bad page ended the search, further steps
--- change nothing.
+-- The loop of a search: the steps that are left take the tables where all steps take those at the start. The queue's
+-- first station is the one that the definition chooses; where nobody is left, or a bad page ended the search, further
+-- steps change nothing.
 use mathlib.Core.Path.{_≡_, refl, ap, sym, _∙_, subst}
 use mathlib.Core.Bool.{Bool}
 use mathlib.Core.List.{List}
@@ -29,13 +29,19 @@ use Rattle.search.specs.Steps.{countOf, haltOf, standing, visitOf, steps
 drop-further : (l m : List ℕ) (i j : ℕ) → i ≤ j → drop i l ≡ drop i m → drop j l ≡ drop j m
 drop-further l m i j h e =
     let n : i + (j - i) ≡ j = omega arith in
-    sym (ap (λ k. drop k l) n) ∙ sym (drop-drop (j - i) i l) ∙ ap (drop (j - i)) e ∙ drop-drop (j - i) i m ∙ ap (λ k. drop k m) n
+    sym (ap (λ k. drop k l) n) ∙
+    sym (drop-drop (j - i) i l) ∙
+    ap (drop (j - i)) e ∙
+    drop-drop (j - i) i m ∙
+    ap (λ k. drop k m) n
 
 chosen-inside : (times marks : List ℕ) (u : ℕ) → chosen times marks ≡ Station u → u < length times
 unfolding chosen
 chosen-inside times marks u e =
     let test : ℕ → Bool = λ v. waits (getD times v noTime) (getD marks v 0) in
-    let l = subst (LeastIs (λ v. getD times v noTime) test (length times)) e (least-is (λ v. getD times v noTime) test (length times)) in
+    let l =
+    subst (LeastIs (λ v. getD times v noTime) test (length times)) e
+    (least-is (λ v. getD times v noTime) test (length times)) in
     l .inside
 
 module _ (df : Bool) (image : List ℕ) (before : Tables) (list₀ : List ℕ) where
@@ -61,7 +67,8 @@ module _ (df : Bool) (image : List ℕ) (before : Tables) (list₀ : List ℕ) w
     pub behind : drop count list ≡ drop count list₀
     pub left : stepsOf df image (length (before .times) - k) (standing now list (On count)) ≡ goal
 
-  pub running-start : (known starts tree : List ℕ) → length (before .times) ≡ length (directoryOf image) → Queue tree (before .times) (before .marks)
+  pub running-start : (known starts tree : List ℕ) → length (before .times) ≡ length (directoryOf image)
+      → Queue tree (before .times) (before .marks)
       → Known image known starts → Running known starts tree before list₀ 0 0
   running-start known starts tree z q p = record {
     size = z;
@@ -77,7 +84,8 @@ module _ (df : Bool) (image : List ℕ) (before : Tables) (list₀ : List ℕ) w
     left = ap (λ n. stepsOf df image n (standing before list₀ (On 0))) (sub-zero (length (before .times)));
   }
 
-  module _ (known starts tree : List ℕ) (now : Tables) (list : List ℕ) (count k : ℕ) (w : Running known starts tree now list count k)
+  module _ (known starts tree : List ℕ) (now : Tables) (list : List ℕ) (count k : ℕ)
+      (w : Running known starts tree now list count k)
       (r : Choice) (e : r ≡ chosen (now .times) (now .marks)) where
     abbrev s : State
     s = standing now list (On count)
@@ -89,11 +97,14 @@ module _ (df : Bool) (image : List ℕ) (before : Tables) (list₀ : List ℕ) w
     running-station u q = chosen-inside (now .times) (now .marks) u (sym e ∙ q)
 
     pub running-stop : r ≡ Nobody → standing now list (On count) ≡ goal
-    running-stop q = sym (iter-idle (stepBy F visit) s (step-idle F visit s (found ∙ q)) (length (before .times) - k)) ∙ w .left
+    running-stop q =
+        sym (iter-idle (stepBy F visit) s (step-idle F visit s (found ∙ q)) (length (before .times) - k)) ∙ w .left
 
     -- the state after a step, with the steps that are then left
-    module _ (u : ℕ) (q : r ≡ Station u) (more : k < length (before .times)) (after : Tables) (list′ : List ℕ) (stood : Step)
-        (d : standing after list′ stood ≡ visitOf df (mapFrame image) (mapPage image) u (standing now list (On count))) where
+    module _ (u : ℕ) (q : r ≡ Station u) (more : k < length (before .times)) (after : Tables) (list′ : List ℕ)
+        (stood : Step)
+        (d : standing after list′ stood
+        ≡ visitOf df (mapFrame image) (mapPage image) u (standing now list (On count))) where
       stepped : iter (stepBy F visit) (length (before .times) - (k + 1)) (standing after list′ stood) ≡ goal
       unfolding iter
       stepped =
@@ -101,9 +112,12 @@ module _ (df : Bool) (image : List ℕ) (before : Tables) (list₀ : List ℕ) w
           ap (iter (stepBy F visit) (length (before .times) - (k + 1))) (d ∙ sym (step-busy F visit s u (found ∙ q))) ∙
           sym (ap (λ m. iter (stepBy F visit) m s) n) ∙ w .left
 
-      pub running-on : (c : ℕ) (known′ starts′ tree′ : List ℕ) → stood ≡ On c → count ≤ countOf stood → countOf stood ≤ count + 1
-          → drop (countOf stood) list′ ≡ drop (countOf stood) list → Known image known′ starts′ → Queue tree′ (after .times) (after .marks)
-          → length (after .times) ≡ length (now .times) → length (after .preds) ≡ length (now .preds) → length (after .marks) ≡ length (now .marks)
+      pub running-on : (c : ℕ) (known′ starts′ tree′ : List ℕ) → stood ≡ On c → count ≤ countOf stood
+          → countOf stood ≤ count + 1
+          → drop (countOf stood) list′ ≡ drop (countOf stood) list → Known image known′ starts′
+          → Queue tree′ (after .times) (after .marks)
+          → length (after .times) ≡ length (now .times) → length (after .preds) ≡ length (now .preds)
+          → length (after .marks) ≡ length (now .marks)
           → length list′ ≡ length list → Running known′ starts′ tree′ after list′ c (k + 1)
       running-on c known′ starts′ tree′ o low high b p queue lt lp lm ll =
           let cs : countOf stood ≡ c = ap countOf o in
@@ -117,21 +131,31 @@ module _ (df : Bool) (image : List ℕ) (before : Tables) (list₀ : List ℕ) w
             known-pages = p;
             few = omega (arith, w .few);
             within = omega arith;
-            behind = sym (ap (λ i. drop i list′) cs) ∙ b ∙ drop-further list list₀ count (countOf stood) low (w .behind) ∙ ap (λ i. drop i list₀) cs;
-            left = sym (ap (λ x. iter (stepBy F visit) (length (before .times) - (k + 1)) (standing after list′ x)) o) ∙ stepped;
+            behind =
+                sym (ap (λ i. drop i list′) cs) ∙
+                b ∙
+                drop-further list list₀ count (countOf stood) low (w .behind) ∙
+                ap (λ i. drop i list₀) cs;
+            left =
+                sym (ap (λ x. iter (stepBy F visit) (length (before .times) - (k + 1)) (standing after list′ x)) o) ∙
+                stepped;
           }
 
       pub running-halt : (number p offset c : ℕ) → stood ≡ Stopped number p offset c → standing after list′ stood ≡ goal
       running-halt number p offset c o =
           sym (iter-idle (stepBy F visit) (standing after list′ stood)
-          (step-idle F visit (standing after list′ stood) (choose-refused F (standing after list′ stood) number p offset (ap haltOf o)))
+          (step-idle F visit (standing after list′ stood)
+          (choose-refused F (standing after list′ stood) number p offset (ap haltOf o)))
           (length (before .times) - (k + 1))) ∙ stepped
 
-      pub halt-behind : countOf stood ≤ count + 1 → count ≤ countOf stood → drop (countOf stood) list′ ≡ drop (countOf stood) list
+      pub halt-behind : countOf stood ≤ count + 1 → count ≤ countOf stood
+          → drop (countOf stood) list′ ≡ drop (countOf stood) list
           → (countOf stood ≤ length (before .times)) × (drop (countOf stood) list′ ≡ drop (countOf stood) list₀)
-      halt-behind high low b = (omega (arith, w .few), b ∙ drop-further list list₀ count (countOf stood) low (w .behind))
+      halt-behind high low b =
+          (omega (arith, w .few), b ∙ drop-further list list₀ count (countOf stood) low (w .behind))
 
-  module _ (known starts tree : List ℕ) (now : Tables) (list : List ℕ) (count k : ℕ) (w : Running known starts tree now list count k) where
+  module _ (known starts tree : List ℕ) (now : Tables) (list : List ℕ) (count k : ℕ)
+      (w : Running known starts tree now list count k) where
     pub running-end : length (now .times) ≤ k → standing now list (On count) ≡ goal
     unfolding iter
     running-end h =

@@ -26,7 +26,8 @@ use Rattle.search.proofs.Visiting.{moves-good}
 member-good : (n own least v w : ℕ) (moves : List Move) → GoodMoves n own least moves
     → List·Memᴰ (record { target = v; weight = w }) (map netMove moves) → (0 < w) × (w ≤ 65535) × (v < n)
 member-good n own least v w [] g m = absurd (List·Memᴰ·not-nil m)
-member-good n own least v w (x ∷ moves) g m = ⊎-elim here (λ k. member-good n own (x .target + 1) v w moves (g .1) k) (List·Memᴰ·cases-cons m)
+member-good n own least v w (x ∷ moves) g m =
+    ⊎-elim here (λ k. member-good n own (x .target + 1) v w moves (g .1) k) (List·Memᴰ·cases-cons m)
   where
     here : _≡_ {A = NetMove} (record { target = v; weight = w }) (netMove x) → (0 < w) × (w ≤ 65535) × (v < n)
     here e =
@@ -35,17 +36,21 @@ member-good n own least v w (x ∷ moves) g m = ⊎-elim here (λ k. member-good
         (omega (arith, g .0 .timed), omega (arith, g .0 .fits), omega (arith, g .0 .below))
 
 module _ (image : List ℕ) (bytes : Bytes image) where
-  goes-good : (u v w p : ℕ) (r : Reading) → readingOf image p ≡ r → List·Memᴰ (record { target = v; weight = w }) (movesOf (offered r) u)
+  goes-good : (u v w p : ℕ) (r : Reading) → readingOf image p ≡ r
+      → List·Memᴰ (record { target = v; weight = w }) (movesOf (offered r) u)
       → (0 < w) × (w ≤ 65535) × (v < length (directoryOf image))
   unfolding readingOf
   goes-good u v w p (good moves stations) e m =
       let k = promise (directoryOf image) p (pageBytes image p) (bytes-page image p bytes) moves stations e in
-      member-good (length (directoryOf image)) u 0 v w (stationMoves stations u) (moves-good (length (directoryOf image)) stations u (k .content .fine)) m
+      member-good (length (directoryOf image)) u 0 v w (stationMoves stations u)
+      (moves-good (length (directoryOf image)) stations u (k .content .fine)) m
   goes-good u v w p (bad number offset) e m = absurd (List·Memᴰ·not-nil m)
 
-  pub image-sound : headingCheck image ≡ accepted → (source : ℕ) → source < length (directoryOf image) → Sound (mapFrame image) (mapPage image) source
+  pub image-sound : headingCheck image ≡ accepted → (source : ℕ) → source < length (directoryOf image)
+      → Sound (mapFrame image) (mapPage image) source
   unfolding mapPage
   image-sound h source s =
       let f = formed image h in
       map-sound (mapFrame image) (mapPage image) source (omega (arith, f .directory, f .stations-most)) refl s
-      (λ u v w g. goes-good u v w (getD (directoryOf image) u 0) (readingOf image (getD (directoryOf image) u 0)) refl g)
+      (λ u v w g.
+      goes-good u v w (getD (directoryOf image) u 0) (readingOf image (getD (directoryOf image) u 0)) refl g)

@@ -1,4 +1,4 @@
--- The demands, as clauses on what a search hands back: with walks, lists and images, and not with the steps of a search.
+-- The demands, as clauses on what a search hands back: with walks, lists and images, not with the steps of a search.
 use mathlib.Core.Path.{_≡_}
 use mathlib.Core.List.{List, [], _∷_, _++_, List·Memᴰ}
 use Prim.Native.Nat.{ℕ}
@@ -10,35 +10,38 @@ use Rattle.page.specs.Image.{stationCount, AgreeOnHeading, AgreeOnDirectory, Ag
 use Rattle.search.specs.Map.{mapFrame, mapPage}
 use Rattle.search.specs.Reply.{Lent, Handed, accepted, page-refused, searched, listOf}
 
+-- Tables of the same lengths.
+pub record SameLengths (t other : Lent) : Type 0 where
+  pub times : length (t .times) ≡ length (other .times)
+  pub preds : length (t .preds) ≡ length (other .preds)
+  pub marks : length (t .marks) ≡ length (other .marks)
+  pub list : length (t .list) ≡ length (other .list)
+
 module _ (image : List ℕ) (source : ℕ) where
   -- Demand 2: the times and predecessors of an accepted search, and the number of stations reached.
   abbrev pub TimesAreLeast : Handed → Type 0
   TimesAreLeast h =
       (count reached : ℕ) → h .reply ≡ accepted count reached
-      → LeastTimes (mapFrame image) (mapPage image) source (take (stationCount image) (h .tables .times)) (take (stationCount image) (h .tables .preds)) reached
+      → LeastTimes (mapFrame image) (mapPage image) source (take (stationCount image) (h .tables .times))
+      (take (stationCount image) (h .tables .preds)) reached
 
-  -- "the refused page is that of the station, of all on bad pages, least by time and then number over walks that leave only
-  -- stations on good pages"; it stands last in the list
+  -- "the refused page is that of the station, of all on bad pages, least by time and then number over walks that leave
+  -- only stations on good pages"; it stands last in the list
   abbrev pub PageIsFirstBad : Handed → Type 0
   PageIsFirstBad h =
       (number p offset count : ℕ) → h .reply ≡ page-refused number p offset count
-      → RefusedPage (mapFrame image) (mapPage image) source number p offset × ((before : List ℕ) × (listOf h ≡ before ++ (p ∷ [])))
+      → RefusedPage (mapFrame image) (mapPage image) source number p offset
+      × ((before : List ℕ) × (listOf h ≡ before ++ (p ∷ [])))
 
   -- Demand 3: our list against Dijkstra's, which is that of the plain search "called on the same image and source with
   -- tables of the same lengths".
-  pub record SameLengths (t other : Lent) : Type 0 where
-    pub times : length (t .times) ≡ length (other .times)
-    pub preds : length (t .preds) ≡ length (other .preds)
-    pub marks : length (t .marks) ≡ length (other .marks)
-    pub list : length (t .list) ≡ length (other .list)
-
   abbrev pub ListAgainstDijkstra : Lent → Handed → Type 0
   ListAgainstDijkstra t h =
       (count reached : ℕ) → h .reply ≡ accepted count reached → (other : Lent) → SameLengths t other
       → ListOf (mapFrame image) (mapPage image) source (listOf h) (listOf (searched plainSearch image source other))
 
-  -- "every image of the same length, heading and directory that agrees with the first on all listed pages gets, for the same
-  -- source and lent tables, the same answer, tables and list, whatever its other pages hold"
+  -- "every image of the same length, heading and directory that agrees with the first on all listed pages gets, for the
+  -- same source and lent tables, the same answer, tables and list, whatever its other pages hold"
   abbrev pub SameOnListedPages : (Frame → (ℕ → Page) → ℕ → State) → Lent → Handed → Type 0
   SameOnListedPages search t h =
       (other : List ℕ) → length image ≡ length other → AgreeOnHeading image other → AgreeOnDirectory image other

@@ -14,8 +14,8 @@ use Rattle.search.specs.declared.Answer.{Answer}
 use Rattle.search.specs.declared.Answer.the-variants.{Accepted, Refused, NoPage, BadPage}
 use Rattle.search.specs.Map.{mapFrame, mapPage}
 
--- "Accepted: the answer has the list's count and the number of stations reached." A refusal has its number and its place;
--- at a page refusal "the answer gives count, page and offset".
+-- "Accepted: the answer has the list's count and the number of stations reached." A refusal has its number and its
+-- place; at a page refusal "the answer gives count, page and offset".
 pub data Reply : Type 0 where
   accepted : ℕ → ℕ → Reply
   refused : ℕ → Place → Reply
@@ -44,24 +44,31 @@ pub record Handed : Type 0 where
 abbrev pub handed : Reply → Lent → Handed
 handed r t = record { reply = r; tables = t }
 
+-- What a call handed back: its answer's meaning, and the four tables as it left them.
+abbrev pub returned : Answer → List ℕ → List ℕ → List ℕ → List ℕ → Handed
+returned answer t p m l = handed (meaning answer) (lent t p m l)
+
 -- The front of a table written anew, and its other entries kept.
 abbrev pub over : List ℕ → List ℕ → List ℕ
 over front table = front ++ drop (length front) table
 
--- How a search that has ended leaves the tables: "times ..; predecessors ..; marks 0. The list holds count entries; its others
--- keep their bytes. Page refusal: times all none, predecessors all 65,535, marks 0, the list holds the references made".
+-- How a search that has ended leaves the tables: "times ..; predecessors ..; marks 0. The list holds count entries; its
+-- others keep their bytes. Page refusal: times all none, predecessors all 65,535, marks 0, the list holds the references
+-- made".
 abbrev pub ended : Halt → Frame → State → Lent → Handed
 ended going F s t =
     handed (accepted (length (s .pages)) (reached F s))
-    (lent (over (s .times) (t .times)) (over (s .preds) (t .preds)) (over (replicate (F .size) 0) (t .marks)) (over (s .pages) (t .list)))
+    (lent (over (s .times) (t .times)) (over (s .preds) (t .preds)) (over (replicate (F .size) 0) (t .marks))
+    (over (s .pages) (t .list)))
 ended (halted number p offset) F s t =
     handed (page-refused number p offset (length (s .pages)))
-    (lent (over (replicate (F .size) noTime) (t .times)) (over (replicate (F .size) noPred) (t .preds)) (over (replicate (F .size) 0) (t .marks))
-    (over (s .pages) (t .list)))
+    (lent (over (replicate (F .size) noTime) (t .times)) (over (replicate (F .size) noPred) (t .preds))
+    (over (replicate (F .size) 0) (t .marks)) (over (s .pages) (t .list)))
 
 -- "a table under N entries"
 abbrev pub tooShort : ℕ → Lent → Bool
-tooShort n t = ltb (length (t .times)) n || (ltb (length (t .preds)) n || (ltb (length (t .marks)) n || ltb (length (t .list)) n))
+tooShort n t =
+    ltb (length (t .times)) n || (ltb (length (t .preds)) n || (ltb (length (t .marks)) n || ltb (length (t .list)) n))
 
 -- A search on an image: "1 to 7 are tried in this order before any page and leave every table untouched".
 module _ (search : Frame → (ℕ → Page) → ℕ → State) (image : List ℕ) (source : ℕ) (t : Lent) where
@@ -77,7 +84,8 @@ module _ (search : Frame → (ℕ → Page) → ℕ → State) (image : List ℕ
   unfoldable pub searched : Handed
   searched = afterHeading (headingCheck image)
 
--- "A list is the page references that a search makes, in order, at a page refusal too; at any other refusal there are none."
+-- "A list is the page references that a search makes, in order, at a page refusal too; at any other refusal there are
+-- none."
 abbrev pub listBy : Reply → List ℕ → List ℕ
 listBy (accepted count reached) list = take count list
 listBy (refused number place) list = []

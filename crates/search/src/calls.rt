@@ -1,13 +1,13 @@
-// The two public searches. Each takes an image, a source and four lent tables: times, predecessors, marks and page list, with
-// an entry for each station at least. What they promise stands in specs/Reply.antt (the whole outcome, refusals too) and
-// specs/Promises.antt (demands 2 and 3).
+// The two public searches. Each takes an image, a source and four lent tables: times, predecessors, marks and page list,
+// with an entry for each station at least. What they promise stands in specs/Reply.antt (the whole outcome, refusals too)
+// and specs/Promises.antt (demands 2 and 3).
 
 ghost use mathlib.Core.Path.{_≡_};
 ghost use mathlib.Core.Bool.{not, _||_};
 ghost use lib.Dec.{ltb};
 ghost use Rattle.net.specs.Search.{plainSearch, dfSearch};
 ghost use Rattle.page.specs.Image.{headingCheck, accepted};
-ghost use Rattle.search.specs.Reply.{meaning, lent, handed, afterHeading, searched};
+ghost use Rattle.search.specs.Reply.{lent, returned, afterHeading, searched};
 ghost use Rattle.search.specs.Promises.{TimesAreLeast, PageIsFirstBad, ListAgainstDijkstra, SameOnListedPages};
 ghost use Rattle.search.specs.Steps.{searchOf};
 use super::Answer;
@@ -43,7 +43,10 @@ fn on_tables(
     list: &mut [u8],
 ) -> Answer
     requires formed { ⌜ headingCheck (now image) ≡ accepted ⌝ }
-    ensures searched { λ r. ⌜ handed (meaning r) (lent (now (times .exit)) (now (preds .exit)) (now (marks .exit)) (now (list .exit))) ≡ afterHeading (searchOf df) (now (image .entry)) source (lent (now (times .entry)) (now (preds .entry)) (now (marks .entry)) (now (list .entry))) accepted ⌝ }
+    ensures searched { λ r. ⌜
+        returned r (now (times .exit)) (now (preds .exit)) (now (marks .exit)) (now (list .exit)) ≡
+        afterHeading (searchOf df) (now (image .entry)) source
+        (lent (now (times .entry)) (now (preds .entry)) (now (marks .entry)) (now (list .entry))) accepted ⌝ }
 {
     let n = station_count(image);
     if n <= source as usize {
@@ -73,7 +76,10 @@ fn search(
     marks: &mut [u8],
     list: &mut [u8],
 ) -> Answer
-    ensures searched { λ r. ⌜ handed (meaning r) (lent (now (times .exit)) (now (preds .exit)) (now (marks .exit)) (now (list .exit))) ≡ searched (searchOf df) (now (image .entry)) source (lent (now (times .entry)) (now (preds .entry)) (now (marks .entry)) (now (list .entry))) ⌝ }
+    ensures searched { λ r. ⌜
+        returned r (now (times .exit)) (now (preds .exit)) (now (marks .exit)) (now (list .exit)) ≡
+        searched (searchOf df) (now (image .entry)) source
+        (lent (now (times .entry)) (now (preds .entry)) (now (marks .entry)) (now (list .entry))) ⌝ }
 {
     match check_heading(image) {
         Checked::Whole => on_tables(df, image, source, times, preds, marks, list),
@@ -97,10 +103,20 @@ pub fn plain(
     marks: &mut [u8],
     list: &mut [u8],
 ) -> Answer
-    ensures outcome { λ r. ⌜ handed (meaning r) (lent (now (times .exit)) (now (preds .exit)) (now (marks .exit)) (now (list .exit))) ≡ searched plainSearch (now (image .entry)) source (lent (now (times .entry)) (now (preds .entry)) (now (marks .entry)) (now (list .entry))) ⌝ }
-    ensures times { λ r. ⌜ TimesAreLeast (now (image .entry)) source (handed (meaning r) (lent (now (times .exit)) (now (preds .exit)) (now (marks .exit)) (now (list .exit)))) ⌝ }
-    ensures refused { λ r. ⌜ PageIsFirstBad (now (image .entry)) source (handed (meaning r) (lent (now (times .exit)) (now (preds .exit)) (now (marks .exit)) (now (list .exit)))) ⌝ }
-    ensures images { λ r. ⌜ SameOnListedPages (now (image .entry)) source plainSearch (lent (now (times .entry)) (now (preds .entry)) (now (marks .entry)) (now (list .entry))) (handed (meaning r) (lent (now (times .exit)) (now (preds .exit)) (now (marks .exit)) (now (list .exit)))) ⌝ }
+    ensures outcome { λ r. ⌜
+        returned r (now (times .exit)) (now (preds .exit)) (now (marks .exit)) (now (list .exit)) ≡
+        searched plainSearch (now (image .entry)) source
+        (lent (now (times .entry)) (now (preds .entry)) (now (marks .entry)) (now (list .entry))) ⌝ }
+    ensures times { λ r. ⌜
+        TimesAreLeast (now (image .entry)) source
+        (returned r (now (times .exit)) (now (preds .exit)) (now (marks .exit)) (now (list .exit))) ⌝ }
+    ensures refused { λ r. ⌜
+        PageIsFirstBad (now (image .entry)) source
+        (returned r (now (times .exit)) (now (preds .exit)) (now (marks .exit)) (now (list .exit))) ⌝ }
+    ensures images { λ r. ⌜
+        SameOnListedPages (now (image .entry)) source plainSearch
+        (lent (now (times .entry)) (now (preds .entry)) (now (marks .entry)) (now (list .entry)))
+        (returned r (now (times .exit)) (now (preds .exit)) (now (marks .exit)) (now (list .exit))) ⌝ }
 {
     search(false, image, source, times, preds, marks, list)
 }
@@ -114,11 +130,24 @@ pub fn df(
     marks: &mut [u8],
     list: &mut [u8],
 ) -> Answer
-    ensures outcome { λ r. ⌜ handed (meaning r) (lent (now (times .exit)) (now (preds .exit)) (now (marks .exit)) (now (list .exit))) ≡ searched dfSearch (now (image .entry)) source (lent (now (times .entry)) (now (preds .entry)) (now (marks .entry)) (now (list .entry))) ⌝ }
-    ensures times { λ r. ⌜ TimesAreLeast (now (image .entry)) source (handed (meaning r) (lent (now (times .exit)) (now (preds .exit)) (now (marks .exit)) (now (list .exit)))) ⌝ }
-    ensures refused { λ r. ⌜ PageIsFirstBad (now (image .entry)) source (handed (meaning r) (lent (now (times .exit)) (now (preds .exit)) (now (marks .exit)) (now (list .exit)))) ⌝ }
-    ensures list { λ r. ⌜ ListAgainstDijkstra (now (image .entry)) source (lent (now (times .entry)) (now (preds .entry)) (now (marks .entry)) (now (list .entry))) (handed (meaning r) (lent (now (times .exit)) (now (preds .exit)) (now (marks .exit)) (now (list .exit)))) ⌝ }
-    ensures images { λ r. ⌜ SameOnListedPages (now (image .entry)) source dfSearch (lent (now (times .entry)) (now (preds .entry)) (now (marks .entry)) (now (list .entry))) (handed (meaning r) (lent (now (times .exit)) (now (preds .exit)) (now (marks .exit)) (now (list .exit)))) ⌝ }
+    ensures outcome { λ r. ⌜
+        returned r (now (times .exit)) (now (preds .exit)) (now (marks .exit)) (now (list .exit)) ≡
+        searched dfSearch (now (image .entry)) source
+        (lent (now (times .entry)) (now (preds .entry)) (now (marks .entry)) (now (list .entry))) ⌝ }
+    ensures times { λ r. ⌜
+        TimesAreLeast (now (image .entry)) source
+        (returned r (now (times .exit)) (now (preds .exit)) (now (marks .exit)) (now (list .exit))) ⌝ }
+    ensures refused { λ r. ⌜
+        PageIsFirstBad (now (image .entry)) source
+        (returned r (now (times .exit)) (now (preds .exit)) (now (marks .exit)) (now (list .exit))) ⌝ }
+    ensures list { λ r. ⌜
+        ListAgainstDijkstra (now (image .entry)) source
+        (lent (now (times .entry)) (now (preds .entry)) (now (marks .entry)) (now (list .entry)))
+        (returned r (now (times .exit)) (now (preds .exit)) (now (marks .exit)) (now (list .exit))) ⌝ }
+    ensures images { λ r. ⌜
+        SameOnListedPages (now (image .entry)) source dfSearch
+        (lent (now (times .entry)) (now (preds .entry)) (now (marks .entry)) (now (list .entry)))
+        (returned r (now (times .exit)) (now (preds .exit)) (now (marks .exit)) (now (list .exit))) ⌝ }
 {
     search(true, image, source, times, preds, marks, list)
 }

@@ -45,8 +45,14 @@ fn run(
     requires room { ⌜ length (now times) ≤ length (now list) ⌝ }
     requires known { ⌜ Known (now image) (now known) (now starts) ⌝ }
     requires queue { ⌜ Queue (now tree) (now times) (now marks) ⌝ }
-    ensures ran { λ r. ⌜ standing (tables (now (times .exit)) (now (preds .exit)) (now (marks .exit))) (now (list .exit)) r ≡ stepsOf df (now (image .entry)) (length (now (times .entry))) (standing (tables (now (times .entry)) (now (preds .entry)) (now (marks .entry))) (now (list .entry)) (On 0)) ⌝ }
-    ensures list { λ r. ⌜ (countOf r ≤ length (now (times .entry))) × (drop (countOf r) (now (list .exit)) ≡ drop (countOf r) (now (list .entry))) ⌝ }
+    ensures ran { λ r. ⌜
+        standing (tables (now (times .exit)) (now (preds .exit)) (now (marks .exit))) (now (list .exit)) r ≡
+        stepsOf df (now (image .entry)) (length (now (times .entry)))
+        (standing (tables (now (times .entry)) (now (preds .entry)) (now (marks .entry))) (now (list .entry))
+        (On 0)) ⌝ }
+    ensures list { λ r. ⌜
+        (countOf r ≤ length (now (times .entry))) ×
+        (drop (countOf r) (now (list .exit)) ≡ drop (countOf r) (now (list .entry))) ⌝ }
 {
     let mut count: usize = 0;
     let mut k: usize = 0;
@@ -90,9 +96,12 @@ fn run(
 // The tables at the start: the source has time 0, and nothing is settled or fresh.
 fn begin(source: u16, times: &mut [u32], preds: &mut [u16], marks: &mut [u8], tree: &mut [u64])
     requires source { ⌜ (source < length (now times)) × (length (now times) ≤ 2048) ⌝ }
-    requires sizes { ⌜ (length (now preds) ≡ length (now times)) × (length (now marks) ≡ length (now times)) ⌝ }
+    requires sizes { ⌜
+        (length (now preds) ≡ length (now times)) × (length (now marks) ≡ length (now times)) ⌝ }
     requires tree { ⌜ now tree ≡ replicate 4096 nobody ⌝ }
-    ensures begun { λ _. ⌜ Begun source (length (now (times .entry))) (tables (now (times .exit)) (now (preds .exit)) (now (marks .exit))) ⌝ }
+    ensures begun { λ _. ⌜
+        Begun source (length (now (times .entry)))
+        (tables (now (times .exit)) (now (preds .exit)) (now (marks .exit))) ⌝ }
     ensures queue { λ _. ⌜ Queue (now (tree .exit)) (now (times .exit)) (now (marks .exit)) ⌝ }
 {
     clear(times, preds, marks);
@@ -103,7 +112,9 @@ fn begin(source: u16, times: &mut [u32], preds: &mut [u16], marks: &mut [u8], tr
 
 // How a search that has ended leaves its tables: marks 0; at a page refusal times and predecessors are cleared too.
 fn finish(stood: Step, times: &mut [u32], preds: &mut [u16], marks: &mut [u8]) -> Answer
-    ensures finished { λ r. ⌜ (meaning r ≡ replyOf stood (now (times .entry))) × Left stood (tables (now (times .entry)) (now (preds .entry)) (now (marks .entry))) (tables (now (times .exit)) (now (preds .exit)) (now (marks .exit))) ⌝ }
+    ensures finished { λ r. ⌜ (meaning r ≡ replyOf stood (now (times .entry))) × Left stood
+        (tables (now (times .entry)) (now (preds .entry)) (now (marks .entry)))
+        (tables (now (times .exit)) (now (preds .exit)) (now (marks .exit))) ⌝ }
 {
     match stood {
         Step::On(count) => {
@@ -143,8 +154,13 @@ pub fn search_exact(
 ) -> Answer
     requires formed { ⌜ headingCheck (now image) ≡ accepted ⌝ }
     requires source { ⌜ source < length (now times) ⌝ }
-    requires sizes { ⌜ (length (now times) ≡ length (directoryOf (now image))) × (length (now preds) ≡ length (now times)) × (length (now marks) ≡ length (now times)) × (length (now times) ≤ length (now list)) ⌝ }
-    ensures searched { λ r. ⌜ handed (meaning r) (lent (now (times .exit)) (now (preds .exit)) (now (marks .exit)) (now (list .exit))) ≡ onMap (searchOf df) (now (image .entry)) source (lent (now (times .entry)) (now (preds .entry)) (now (marks .entry)) (now (list .entry))) ⌝ }
+    requires sizes { ⌜
+        (length (now times) ≡ length (directoryOf (now image))) × (length (now preds) ≡ length (now times)) ×
+        (length (now marks) ≡ length (now times)) × (length (now times) ≤ length (now list)) ⌝ }
+    ensures searched { λ r. ⌜
+        handed (meaning r) (lent (now (times .exit)) (now (preds .exit)) (now (marks .exit)) (now (list .exit))) ≡
+        onMap (searchOf df) (now (image .entry)) source
+        (lent (now (times .entry)) (now (preds .entry)) (now (marks .entry)) (now (list .entry))) ⌝ }
 {
     let mut first = [0u16; 256];
     let mut next = [0u16; 2048];

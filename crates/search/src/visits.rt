@@ -32,7 +32,8 @@ use relax::through::work_through;
 fn settle(marks: &mut [u8], tree: &mut [u64], u: usize, times: &[u32])
     requires station { ⌜ u < length (now times) ⌝ }
     requires queue { ⌜ Queue (now tree) (now times) (now marks) ⌝ }
-    ensures settled { λ _. ⌜ now (marks .exit) ≡ set (now (marks .entry)) u (getD (now (marks .entry)) u 0 / 2 * 2 + 1) ⌝ }
+    ensures settled { λ _. ⌜
+        now (marks .exit) ≡ set (now (marks .entry)) u (getD (now (marks .entry)) u 0 / 2 * 2 + 1) ⌝ }
     ensures queue { λ _. ⌜ Queue (now (tree .exit)) (now (times .entry)) (now (marks .exit)) ⌝ }
 {
     let mark = mark_at(marks, u) / 2 * 2 + 1;
@@ -58,9 +59,16 @@ fn work(
     requires threaded { ⌜ Threaded (directoryOf (now image)) (now first) (now next) ⌝ }
     requires size { ⌜ length (now times) ≡ length (directoryOf (now image)) ⌝ }
     requires station { ⌜ (u < length (now times)) × (getD (directoryOf (now image)) u 0 ≡ p) ⌝ }
-    requires targets { ⌜ ((v : ℕ) → v < length (directoryOf (now image)) → getD (directoryOf (now image)) v 0 ≡ p → Inside (length (directoryOf (now image))) (movesAt (pageBytes (now image) p) (getD (now starts) v 0))) ⌝ }
+    requires targets { ⌜
+        ((v : ℕ) → v < length (directoryOf (now image)) → getD (directoryOf (now image)) v 0 ≡ p → Inside
+        (length (directoryOf (now image))) (movesAt (pageBytes (now image) p) (getD (now starts) v 0))) ⌝ }
     requires queue { ⌜ Queue (now tree) (now times) (now marks) ⌝ }
-    ensures worked { λ _. ⌜ ((moves : ℕ → List NetMove) → Located (directoryOf (now (image .entry))) p (pageBytes (now (image .entry)) p) (now (starts .entry)) moves → DoesOn (directoryOf (now (image .entry))) (workOf df u p moves) (tables (now (times .entry)) (now (preds .entry)) (now (marks .entry))) (tables (now (times .exit)) (now (preds .exit)) (now (marks .exit)))) ⌝ }
+    ensures worked { λ _. ⌜
+        ((moves : ℕ → List NetMove) → Located (directoryOf (now (image .entry))) p
+        (pageBytes (now (image .entry)) p) (now (starts .entry)) moves → DoesOn (directoryOf (now (image .entry)))
+        (workOf df u p moves)
+        (tables (now (times .entry)) (now (preds .entry)) (now (marks .entry)))
+        (tables (now (times .exit)) (now (preds .exit)) (now (marks .exit)))) ⌝ }
     ensures queue { λ _. ⌜ Queue (now (tree .exit)) (now (times .exit)) (now (marks .exit)) ⌝ }
 {
     let page = page_of(image, p);
@@ -107,8 +115,14 @@ fn refer(
     requires room { ⌜ count < length (now list) ⌝ }
     requires known { ⌜ Known (now image) (now known) (now starts) ⌝ }
     requires queue { ⌜ Queue (now tree) (now times) (now marks) ⌝ }
-    ensures referred { λ r. ⌜ standing (tables (now (times .exit)) (now (preds .exit)) (now (marks .exit))) (now (list .exit)) r ≡ referring df (mapFrame (now (image .entry))) (mapPage (now (image .entry))) u (standing (tables (now (times .entry)) (now (preds .entry)) (now (marks .entry))) (now (list .entry)) (On count)) ⌝ }
-    ensures list { λ r. ⌜ (countOf r ≡ count + 1) × (now (list .exit) ≡ set (now (list .entry)) count (getD (directoryOf (now (image .entry))) u 0)) ⌝ }
+    ensures referred { λ r. ⌜
+        standing (tables (now (times .exit)) (now (preds .exit)) (now (marks .exit))) (now (list .exit)) r ≡
+        referring df (mapFrame (now (image .entry))) (mapPage (now (image .entry))) u
+        (standing (tables (now (times .entry)) (now (preds .entry)) (now (marks .entry))) (now (list .entry))
+        (On count)) ⌝ }
+    ensures list { λ r. ⌜
+        (countOf r ≡ count + 1) ×
+        (now (list .exit) ≡ set (now (list .entry)) count (getD (directoryOf (now (image .entry))) u 0)) ⌝ }
     ensures known { λ _. ⌜ Known (now (image .entry)) (now (known .exit)) (now (starts .exit)) ⌝ }
     ensures queue { λ _. ⌜ Queue (now (tree .exit)) (now (times .exit)) (now (marks .exit)) ⌝ }
 {
@@ -172,8 +186,14 @@ pub fn step(
     requires room { ⌜ count < length (now list) ⌝ }
     requires known { ⌜ Known (now image) (now known) (now starts) ⌝ }
     requires queue { ⌜ Queue (now tree) (now times) (now marks) ⌝ }
-    ensures stepped { λ r. ⌜ standing (tables (now (times .exit)) (now (preds .exit)) (now (marks .exit))) (now (list .exit)) r ≡ visitOf df (mapFrame (now (image .entry))) (mapPage (now (image .entry))) u (standing (tables (now (times .entry)) (now (preds .entry)) (now (marks .entry))) (now (list .entry)) (On count)) ⌝ }
-    ensures list { λ r. ⌜ (count ≤ countOf r) × (countOf r ≤ count + 1) × (drop (countOf r) (now (list .exit)) ≡ drop (countOf r) (now (list .entry))) ⌝ }
+    ensures stepped { λ r. ⌜
+        standing (tables (now (times .exit)) (now (preds .exit)) (now (marks .exit))) (now (list .exit)) r ≡
+        visitOf df (mapFrame (now (image .entry))) (mapPage (now (image .entry))) u
+        (standing (tables (now (times .entry)) (now (preds .entry)) (now (marks .entry))) (now (list .entry))
+        (On count)) ⌝ }
+    ensures list { λ r. ⌜
+        (count ≤ countOf r) × (countOf r ≤ count + 1) ×
+        (drop (countOf r) (now (list .exit)) ≡ drop (countOf r) (now (list .entry))) ⌝ }
     ensures known { λ _. ⌜ Known (now (image .entry)) (now (known .exit)) (now (starts .exit)) ⌝ }
     ensures queue { λ _. ⌜ Queue (now (tree .exit)) (now (times .exit)) (now (marks .exit)) ⌝ }
 {

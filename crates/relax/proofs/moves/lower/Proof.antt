@@ -1,3 +1,5 @@
+-- The three entries written are those stated, and the key put at v is the one that the queue demands for its new time
+-- and mark.
 use mathlib.Core.Path.{_≡_, ap, _∙_}
 use Prim.Native.Nat.{_%_}
 use denote.Ref.{now}
@@ -39,9 +41,27 @@ same-length-4 c = search needs
 
 returns : tie.Need-returns
 returns c =
-    let a = c .before .before .before .before .before .before .before .before .before .before .before .before .before .before .before .before .before .before .before .before .before .before .before .args in
-    let mark : c .before .before .before .before .before .before .before .set-mark .last .0 ≡ set (now (a .marks)) (a .v) _ = c .before .before .before .before .before .before .before .set-mark .ensures ∙ ap (λ m. set (now (a .marks)) (a .v) (m % 2)) (c .before .before .before .before .before .before .before .before .before .before .before .before .before .before .before .before .before .mark-at .ensures) in
-    (c .before .before .before .before .before .before .before .before .before .before .before .before .before .before .before .set-time .ensures, (c .before .before .before .before .before .before .before .before .before .before .before .set-pred .ensures, (mark, lowered-queue (now (a .tree)) (now (a .times)) (now (a .marks)) (a .v) (a .sum) _ _ _ _ _ (c .before .before .before .before .before .before .before .before .before .before .before .before .before .before .before .before .before .before .before .before .before .before .before .pre .1) (c .before .before .before .before .before .before .before .before .before .before .before .before .before .before .before .before .before .before .before .before .before .before .before .pre .0) (c .before .before .before .before .before .before .before .before .before .before .before .before .before .before .before .set-time .ensures) (c .before .before .before .before .before .before .before .set-mark .ensures) (c .before .before .before .before .key .ensures) (c .before .before .put .ensures))))
+    let after-key = c .before .before .before .before in
+    let after-set-mark = after-key .before .before .before in
+    let after-set-pred = after-set-mark .before .before .before .before in
+    let after-set-time = after-set-pred .before .before .before .before in
+    let after-mark-at = after-set-time .before .before in
+    let entry = after-mark-at .before .before .before .before .before .before in
+    let a = entry .args in
+    let mark : after-set-mark .set-mark .last .0 ≡ set (now (a .marks)) (a .v) _ =
+    after-set-mark .set-mark .ensures ∙
+    ap (λ m. set (now (a .marks)) (a .v) (m % 2)) (after-mark-at .mark-at .ensures) in (
+      after-set-time .set-time .ensures,
+      (
+        after-set-pred .set-pred .ensures,
+        (
+          mark,
+          lowered-queue (now (a .tree)) (now (a .times)) (now (a .marks)) (a .v) (a .sum) _ _ _ _ _
+              (entry .pre .1) (entry .pre .0) (after-set-time .set-time .ensures)
+              (after-set-mark .set-mark .ensures) (after-key .key .ensures) (c .before .before .put .ensures),
+        ),
+      ),
+    )
 
 pub lower-spec : {M : Type 1} → statement M
 lower-spec =

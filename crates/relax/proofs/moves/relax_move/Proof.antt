@@ -1,3 +1,5 @@
+-- The four ways through are the four cases of the net's step: the sum is below the time; it equals it and u is the
+-- lower predecessor; it equals it and u is not; it is above.
 use denote.Ref.{now}
 use Rattle.relax.proofs.Relaxing.{relax-lowers, relax-ties, relax-not-below, relax-keeps}
 use borrow.Author.Needs.{needs}
@@ -45,9 +47,18 @@ same-length-4 c = search needs
 
 returns : tie.Need-returns
 returns c =
-    let a = c .before .before .before .before .before .before .before .before .before .before .before .before .before .before .before .before .before .before .before .before .before .before .before .before .args in
-    let done = c .before .before .before .before .before .before .before .before .lower .ensures in
-    (relax-lowers (now (a .times)) (now (a .preds)) (now (a .marks)) (a .u) (a .step) _ _ (c .before .before .before .before .before .before .before .before .before .before .before .before .before .before .before .before .before .time-at .ensures) (c .before .before .before .before .before .before .before .before .before .before .before .before .before .before .time-at2 .ensures) _ _ _ (c .before .before .before .before .before .before .before .before .before .before .before .before .before .if1 .taken) (done .0) (done .1 .0) (done .1 .1 .0), done .1 .1 .1)
+    let after-lower = c .before .before .before .before .before .before .before .before in
+    let after-if1 = after-lower .before .before .before .before .before in
+    let after-second-time-at = after-if1 .before in
+    let after-time-at = after-second-time-at .before .before .before in
+    let entry = after-time-at .before .before .before .before .before .before .before in
+    let a = entry .args in
+    let done = after-lower .lower .ensures in (
+      relax-lowers (now (a .times)) (now (a .preds)) (now (a .marks)) (a .u) (a .step) _ _
+          (after-time-at .time-at .ensures) (after-second-time-at .time-at2 .ensures) _ _ _ (after-if1 .if1 .taken)
+          (done .0) (done .1 .0) (done .1 .1 .0),
+      done .1 .1 .1,
+    )
 
 pred-at-requires : tie.Need-pred-at-requires
 pred-at-requires c κs = search needs
@@ -63,8 +74,18 @@ same-length-6 c = search needs
 
 returns-2 : tie.Need-returns-2
 returns-2 c =
-    let a = c .before .before .before .before .before .before .before .before .before .before .before .before .before .before .before .before .before .before .before .args in
-    (relax-ties (now (a .times)) (now (a .preds)) (now (a .marks)) (a .u) (a .step) _ _ (c .before .before .before .before .before .before .before .before .before .before .before .before .time-at .ensures) (c .before .before .before .before .before .before .before .before .before .time-at2 .ensures) _ _ (c .before .before .before .before .before .before .before .if2 .taken) (c .before .before .before .before .before .pred-at .ensures) (c .before .before .before .before .if3 .taken) (c .before .before .set-pred .ensures), c .before .before .before .before .before .before .before .before .before .before .before .before .before .before .before .before .before .before .before .pre .1)
+    let after-if3 = c .before .before .before .before in
+    let after-pred-at = after-if3 .before in
+    let after-if2 = after-pred-at .before .before in
+    let after-second-time-at = after-if2 .before .before in
+    let after-time-at = after-second-time-at .before .before .before in
+    let entry = after-time-at .before .before .before .before .before .before .before in
+    let a = entry .args in (
+      relax-ties (now (a .times)) (now (a .preds)) (now (a .marks)) (a .u) (a .step) _ _
+          (after-time-at .time-at .ensures) (after-second-time-at .time-at2 .ensures) _ _ (after-if2 .if2 .taken)
+          (after-pred-at .pred-at .ensures) (after-if3 .if3 .taken) (c .before .before .set-pred .ensures),
+      entry .pre .1,
+    )
 
 same-length-7 : tie.Need-same-length-7
 same-length-7 c = search needs
@@ -74,16 +95,29 @@ same-length-8 c = search needs
 
 returns-3 : tie.Need-returns-3
 returns-3 c =
-    let a = c .before .before .before .before .before .before .before .before .before .before .before .before .before .before .before .args in
-    (relax-not-below (now (a .times)) (now (a .preds)) (now (a .marks)) (a .u) (a .step) _ _ (c .before .before .before .before .before .before .before .before .time-at .ensures) (c .before .before .before .before .before .time-at2 .ensures) _ (c .before .before .before .if2 .taken) (c .before .pred-at .ensures) (c .if3 .left), c .before .before .before .before .before .before .before .before .before .before .before .before .before .before .before .pre .1)
+    let after-second-time-at = c .before .before .before .before .before in
+    let after-time-at = after-second-time-at .before .before .before in
+    let entry = after-time-at .before .before .before .before .before .before .before in
+    let a = entry .args in (
+      relax-not-below (now (a .times)) (now (a .preds)) (now (a .marks)) (a .u) (a .step) _ _
+          (after-time-at .time-at .ensures) (after-second-time-at .time-at2 .ensures) _
+          (c .before .before .before .if2 .taken) (c .before .pred-at .ensures) (c .if3 .left),
+      entry .pre .1,
+    )
 
 same-length-9 : tie.Need-same-length-9
 same-length-9 c = search needs
 
 returns-4 : tie.Need-returns-4
 returns-4 c =
-    let a = c .before .before .before .before .before .before .before .before .before .before .before .before .args in
-    (relax-keeps (now (a .times)) (now (a .preds)) (now (a .marks)) (a .u) (a .step) _ _ (c .before .before .before .before .before .time-at .ensures) (c .before .before .time-at2 .ensures) (c .before .if1 .left) (c .if2 .left), c .before .before .before .before .before .before .before .before .before .before .before .before .pre .1)
+    let after-time-at = c .before .before .before .before .before in
+    let entry = after-time-at .before .before .before .before .before .before .before in
+    let a = entry .args in (
+      relax-keeps (now (a .times)) (now (a .preds)) (now (a .marks)) (a .u) (a .step) _ _
+          (after-time-at .time-at .ensures) (c .before .before .time-at2 .ensures) (c .before .if1 .left)
+          (c .if2 .left),
+      entry .pre .1,
+    )
 
 pub relax-move-spec : {M : Type 1} → statement M
 relax-move-spec =

@@ -1,3 +1,6 @@
+-- The loop's invariant: relaxing the moves that are left, from `at` on, takes the tables where relaxing all moves
+-- takes those at the start (`Walking`). Each move read is one step of that row; where no move is left, the tables are
+-- the result.
 use mathlib.Core.Path.{refl}
 use Rattle.relax.proofs.Relaxing.{steps-onward}
 use mathlib.Core.Path.{_≡_, _∙_}
@@ -12,15 +15,22 @@ use Rattle.relax.proofs.moves.relax_moves.Statement.{statement}
 use Rattle.relax.proofs.moves.relax_moves.Tie as tie
 
 abbrev Inv-loop : tie.InvT-loop
-Inv-loop page start u times₀ preds₀ marks₀ tree₀ at₀ times preds marks tree at = Walking page start u (tables times₀ preds₀ marks₀) tree (tables times preds marks) at × (length tree ≡ length tree₀)
+Inv-loop page start u times₀ preds₀ marks₀ tree₀ at₀ times preds marks tree at =
+    Walking page start u (tables times₀ preds₀ marks₀) tree (tables times preds marks) at
+    × (length tree ≡ length tree₀)
 
 abbrev μ-loop : tie.MeasureT-loop
 μ-loop page start u times₀ preds₀ marks₀ tree₀ at₀ times preds marks tree at = length page - at
 
 loop-holds : tie.Need-loop-holds Inv-loop μ-loop
 loop-holds c =
-    let a = c .before .before .before .before .before .args in
-    (walking-start (now (a .page)) (a .start) (a .u) (tables (now (a .times)) (now (a .preds)) (now (a .marks))) (now (a .tree)) (c .before .before .before .before .before .pre .0) (c .before .before .before .before .before .pre .1), refl)
+    let entry = c .before .before .before .before .before in
+    let a = entry .args in (
+      walking-start (now (a .page)) (a .start) (a .u)
+          (tables (now (a .times)) (now (a .preds)) (now (a .marks))) (now (a .tree)) (entry .pre .0)
+          (entry .pre .1),
+      refl,
+    )
 
 next-move-requires : tie.Need-next-move-requires Inv-loop μ-loop
 next-move-requires c κs = search needs
@@ -30,25 +40,42 @@ enum-known-step c = search needs
 
 relax-move-requires : tie.Need-relax-move-requires Inv-loop μ-loop
 relax-move-requires c κs =
-    let l = c .before .before .before .before .before .before .before .before .loop in
-    let a = c .before .before .before .before .before .before .before .before .before .before .before .before .before .before .args in
-    let step = c .before .before .before .before .before .step .given in
-    (step-inside (now (a .page)) (a .start) (a .u) _ (l .tree) (tables (l .times) (l .preds) (l .marks)) (l .at) (l .inv .0) _ (c .before .before .before .before .before .before .before .next-move .ensures .0) (step .0 .0) (step .0 .1 .0) (step .1), l .inv .0 .queue)
+    let after-step = c .before .before .before .before .before in
+    let after-next-move = after-step .before .before in
+    let at-loop = after-next-move .before in
+    let l = at-loop .loop in
+    let step = after-step .step .given in (
+      step-inside _ _ _ _ _ _ _ (l .inv .0) _ (after-next-move .next-move .ensures .0) (step .0 .0)
+          (step .0 .1 .0) (step .1),
+      l .inv .0 .queue,
+    )
 
 loop-less : tie.Need-loop-less Inv-loop μ-loop
 loop-less c =
-    let l = c .before .before .before .before .before .before .before .before .before .before .before .before .before .before .before .before .before .loop in
-    let step = c .before .before .before .before .before .before .before .before .before .before .before .before .before .before .step .given in
-    let on = steps-onward (l .at) _ _ (step .0 .0) (step .0 .1 .0) (c .before .before .before .before .before .before .before .before .before .before .before .before .before .before .before .before .next-move .ensures .1) (step .1) in
+    let after-step =
+    c .before .before .before .before .before .before .before .before .before .before .before .before
+    .before .before in
+    let after-next-move = after-step .before .before in
+    let at-loop = after-next-move .before in
+    let l = at-loop .loop in
+    let step = after-step .step .given in
+    let on = steps-onward (l .at) _ _ (step .0 .0) (step .0 .1 .0) (after-next-move .next-move .ensures .1) (step .1) in
     omega (arith, on)
 
 loop-again : tie.Need-loop-again Inv-loop μ-loop
 loop-again c =
-    let l = c .before .before .before .before .before .before .before .before .before .before .before .before .before .before .before .before .before .loop in
-    let a = c .before .before .before .before .before .before .before .before .before .before .before .before .before .before .before .before .before .before .before .before .before .before .before .args in
-    let step = c .before .before .before .before .before .before .before .before .before .before .before .before .before .before .step .given in
-    let done = c .before .before .before .before .before .before .before .before .relax-move in
-    (walking-on (now (a .page)) (a .start) (a .u) (tables (now (a .times)) (now (a .preds)) (now (a .marks))) (l .tree) (tables (l .times) (l .preds) (l .marks)) (l .at) (l .inv .0) _ (c .before .before .before .before .before .before .before .before .before .before .before .before .before .before .before .before .next-move .ensures .0) (step .0 .0) (step .0 .1 .0) _ _ (step .1) (done .ensures .0) (done .ensures .1) (done .kept .0) (done .kept .1 .0) (done .kept .1 .1 .0), done .kept .1 .1 .1 .0 ∙ l .inv .1)
+    let after-relax-move = c .before .before .before .before .before .before .before .before in
+    let after-step = after-relax-move .before .before .before .before .before .before in
+    let after-next-move = after-step .before .before in
+    let at-loop = after-next-move .before in
+    let l = at-loop .loop in
+    let step = after-step .step .given in
+    let done = after-relax-move .relax-move in (
+      walking-on _ _ _ _ _ _ _ (l .inv .0) _ (after-next-move .next-move .ensures .0) (step .0 .0)
+          (step .0 .1 .0) _ _ (step .1) (done .ensures .0) (done .ensures .1) (done .kept .0) (done .kept .1 .0)
+          (done .kept .1 .1 .0),
+      done .kept .1 .1 .1 .0 ∙ l .inv .1,
+    )
 
 enum-told : tie.Need-enum-told Inv-loop μ-loop
 enum-told c = search needs
@@ -67,9 +94,11 @@ same-length-4 c = c .before .before .before .loop .inv .1
 
 returns : tie.Need-returns Inv-loop μ-loop
 returns c =
-    let l = c .before .before .before .loop in
-    let a = c .before .before .before .before .before .before .before .before .before .args in
-    (walking-end (now (a .page)) (a .start) (a .u) (tables (now (a .times)) (now (a .preds)) (now (a .marks))) (l .tree) (tables (l .times) (l .preds) (l .marks)) (l .at) (l .inv .0) _ (c .before .before .next-move .ensures .0) (c .enum-told .given .1), l .inv .0 .queue)
+    let l = c .before .before .before .loop in (
+      walking-end _ _ _ _ _ _ _ (l .inv .0) _ (c .before .before .next-move .ensures .0)
+          (c .enum-told .given .1),
+      l .inv .0 .queue,
+    )
 
 pub relax-moves-spec : {M : Type 1} → statement M
 relax-moves-spec =

@@ -1,3 +1,5 @@
+-- The mark written is that of a fresh station, and the queue holds no less for it; relaxing the moves then starts
+-- from the tables with that mark.
 use mathlib.Core.Path.{ap, _∙_}
 use mathlib.Core.List.{map}
 use Prim.Native.Nat.{_+_, _%_}
@@ -23,9 +25,17 @@ set-mark-requires c κs = search needs
 
 relax-moves-requires : tie.Need-relax-moves-requires
 relax-moves-requires c κs =
-    let a = c .before .before .before .before .before .before .before .before .before .before .before .before .before .before .before .args in
-    let e = c .before .before .before .before .before .before .set-mark .ensures ∙ ap (λ m. set (now (a .marks)) (a .u) (m % 2 + 2)) (c .before .before .before .before .before .before .before .before .mark-at .ensures) in
-    (c .before .before .before .before .before .before .before .before .before .before .before .before .before .before .before .pre .1 .0, fresh-queue (now (a .tree)) (now (a .times)) (now (a .marks)) (a .u) _ (c .before .before .before .before .before .before .before .before .before .before .before .before .before .before .before .pre .1 .1) (c .before .before .before .before .before .before .before .before .before .before .before .before .before .before .before .pre .0) e)
+    let after-set-mark = c .before .before .before .before .before .before in
+    let after-mark-at = after-set-mark .before .before in
+    let entry = after-mark-at .before .before .before .before .before .before .before in
+    let a = entry .args in
+    let e =
+    after-set-mark .set-mark .ensures ∙
+    ap (λ m. set (now (a .marks)) (a .u) (m % 2 + 2)) (after-mark-at .mark-at .ensures) in (
+      entry .pre .1 .0,
+      fresh-queue (now (a .tree)) (now (a .times)) (now (a .marks)) (a .u) _ (entry .pre .1 .1) (entry .pre .0)
+          e,
+    )
 
 same-length : tie.Need-same-length
 same-length c = search needs
@@ -41,11 +51,24 @@ same-length-4 c = search needs
 
 returns : tie.Need-returns
 returns c =
-    let a = c .before .before .before .before .before .before .before .before .before .before .before .before .before .before .before .before .before .before .before .before .before .before .before .before .args in
-    let e = c .before .before .before .before .before .before .before .before .before .before .before .before .before .before .before .set-mark .ensures ∙ ap (λ m. set (now (a .marks)) (a .u) (m % 2 + 2)) (c .before .before .before .before .before .before .before .before .before .before .before .before .before .before .before .before .before .mark-at .ensures) in
+    let after-relax-moves = c .before .before .before .before .before .before .before .before in
+    let after-set-mark = after-relax-moves .before .before .before .before .before .before .before in
+    let after-mark-at = after-set-mark .before .before in
+    let entry = after-mark-at .before .before .before .before .before .before .before in
+    let a = entry .args in
+    let e =
+    after-set-mark .set-mark .ensures ∙
+    ap (λ m. set (now (a .marks)) (a .u) (m % 2 + 2)) (after-mark-at .mark-at .ensures) in
     let moves = map netMove (movesAt (now (a .page)) (a .start)) in
-    let done = c .before .before .before .before .before .before .before .before .relax-moves .ensures in
-    (λ directory pages halt. done .0 directory pages halt ∙ ap (λ k. relaxAll (frame directory) ltb (a .u) moves (stateOf (tables (now (a .times)) (now (a .preds)) k) pages halt)) e, done .1)
+    let done = after-relax-moves .relax-moves .ensures in (
+      λ directory pages halt.
+          done .0 directory pages halt ∙
+          ap
+          (λ k.
+          relaxAll (frame directory) ltb (a .u) moves
+          (stateOf (tables (now (a .times)) (now (a .preds)) k) pages halt)) e,
+      done .1,
+    )
 
 pub visit-spec : {M : Type 1} → statement M
 visit-spec =

@@ -1,3 +1,4 @@
+-- The loop's invariant: the entries below i are cleared and the others are as they were (`Filling`).
 use native.Mathlib.Omega.{arith}
 use Prim.Native.Nat.{_-_}
 use lib.ListN.{length}

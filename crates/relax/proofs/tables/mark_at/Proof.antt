@@ -1,3 +1,4 @@
+-- Below the table's end the entry read does not depend on the default; past it the default is what is read.
 use mathlib.Core.Path.{sym}
 use denote.Ref.{now}
 use lib.ListN.{List·getD-eq-default}

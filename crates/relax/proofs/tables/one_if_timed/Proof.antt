@@ -1,3 +1,4 @@
+-- Both outcomes of the comparison are those of the definition's test.
 use borrow.Author.Tests.{lt-ltb, le-ltb}
 use Rattle.relax.proofs.tables.one_if_timed.Statement.{statement}
 use Rattle.relax.proofs.tables.one_if_timed.Tie as tie

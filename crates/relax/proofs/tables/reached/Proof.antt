@@ -1,3 +1,4 @@
+-- The loop's invariant: n is the number of stations below v that have a time. At the end v is the number of stations.
 use native.Mathlib.Omega.{arith}
 use mathlib.Core.Path.{_≡_, refl, ap, _∙_}
 use Prim.Native.Nat.{_+_, _-_, _≤_}
@@ -30,9 +31,12 @@ one-if-timed-requires c κs = search needs
 
 add-n : tie.Need-add-n Inv-loop μ-loop
 add-n c =
+    let entry = c .before .before .before .before .before in
     let l = c .before .before .before .loop in
-    let times = now (c .before .before .before .before .before .args .times) in
-    let more = reached-more times (l .v) (c .one-if-timed .result) (c .before .before .loop-test .taken) (c .one-if-timed .ensures) in
+    let times = now (entry .args .times) in
+    let more =
+    reached-more times (l .v) (c .one-if-timed .result) (c .before .before .loop-test .taken)
+    (c .one-if-timed .ensures) in
     omega (arith, more, reached-most times (l .v + 1), l .inv)
 
 add-v : tie.Need-add-v Inv-loop μ-loop
@@ -43,16 +47,20 @@ loop-less c = omega arith
 
 loop-again : tie.Need-loop-again Inv-loop μ-loop
 loop-again c =
+    let entry = c .before .before .before .before .before in
     let l = c .before .before .before .loop in
-    let times = now (c .before .before .before .before .before .args .times) in
-    let more = reached-more times (l .v) (c .one-if-timed .result) (c .before .before .loop-test .taken) (c .one-if-timed .ensures) in
+    let times = now (entry .args .times) in
+    let more =
+    reached-more times (l .v) (c .one-if-timed .result) (c .before .before .loop-test .taken)
+    (c .one-if-timed .ensures) in
     (ap (λ k. k + c .one-if-timed .result) (l .inv .0) ∙ more, omega arith)
 
 returns : tie.Need-returns Inv-loop μ-loop
 returns c =
+    let entry = c .before .before .before in
     let l = c .before .loop in
-    let e : l .v ≡ length (now (c .before .before .before .args .times)) = omega arith in
-    l .inv .0 ∙ ap (reachedBelow (now (c .before .before .before .args .times))) e
+    let e : l .v ≡ length (now (entry .args .times)) = omega arith in
+    l .inv .0 ∙ ap (reachedBelow (now (entry .args .times))) e
 
 pub reached-spec : {M : Type 1} → statement M
 reached-spec =

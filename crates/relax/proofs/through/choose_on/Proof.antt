@@ -1,3 +1,5 @@
+-- The loop's invariant: best is the choice among the page's stations below v, and v is the page's next station
+-- (`Scanned`). The thread gives the next station, which is further on, so the loop ends.
 use Prim.Native.Nat.{_-_}
 use native.Mathlib.Omega.{arith}
 use denote.Ref.{now}
@@ -17,15 +19,19 @@ mul-v : tie.Need-mul-v Inv-loop μ-loop
 mul-v c = omega (arith, c .before .before .before .before .before .fits .p)
 
 shared-slice-read-v : tie.Need-shared-slice-read-v Inv-loop μ-loop
-shared-slice-read-v c = omega (arith, c .before .before .before .before .before .before .pre .pages, c .before .before .before .before .before .before .fits .p)
+shared-slice-read-v c =
+    let entry = c .before .before .before .before .before .before in
+    omega (arith, entry .pre .pages, entry .fits .p)
 
 cast-v : tie.Need-cast-v Inv-loop μ-loop
 cast-v c = omega (arith, c .shared-slice-known6 .given (c .before .before .before .before .before .before .args .p))
 
 loop-holds : tie.Need-loop-holds Inv-loop μ-loop
 loop-holds c =
-    let a = c .before .before .before .before .before .before .args in
-    scanned-start (now (a .directory)) (a .p) (now (a .times)) (now (a .marks)) (now (a .first)) (now (a .next)) (c .before .before .before .before .before .before .pre) (omega (arith, c .before .before .before .before .before .before .fits .p))
+    let entry = c .before .before .before .before .before .before in
+    let a = entry .args in
+    scanned-start (now (a .directory)) (a .p) (now (a .times)) (now (a .marks)) (now (a .first)) (now (a .next))
+    (entry .pre) (omega (arith, entry .fits .p))
 
 considered-requires : tie.Need-considered-requires Inv-loop μ-loop
 considered-requires c κs = search needs
@@ -34,28 +40,40 @@ mul-v-2 : tie.Need-mul-v-2 Inv-loop μ-loop
 mul-v-2 c = omega arith
 
 shared-slice-read-v-2 : tie.Need-shared-slice-read-v-2 Inv-loop μ-loop
-shared-slice-read-v-2 c = omega (arith, c .before .before .before .before .before .before .before .before .before .before .pre .stations)
+shared-slice-read-v-2 c =
+    let entry = c .before .before .before .before .before .before .before .before .before .before in
+    omega (arith, entry .pre .stations)
 
 cast-v-2 : tie.Need-cast-v-2 Inv-loop μ-loop
 cast-v-2 c = omega (arith, c .shared-slice-known7 .given (c .before .before .before .loop .v))
 
 loop-less : tie.Need-loop-less Inv-loop μ-loop
 loop-less c =
-    let a = c .before .before .before .before .before .before .before .before .before .before .args in
+    let entry = c .before .before .before .before .before .before .before .before .before .before in
+    let a = entry .args in
     let l = c .before .before .before .loop in
-    omega (arith, next-rises (now (a .directory)) (a .p) (now (a .times)) (now (a .marks)) (now (a .first)) (now (a .next)) (c .before .before .before .before .before .before .before .before .before .before .pre) (l .best) (l .v) (l .inv) (c .before .before .loop-test .taken))
+    omega (
+      arith,
+      next-rises (now (a .directory)) (a .p) (now (a .times)) (now (a .marks)) (now (a .first)) (now (a .next))
+          (entry .pre) (l .best) (l .v) (l .inv) (c .before .before .loop-test .taken),
+    )
 
 loop-again : tie.Need-loop-again Inv-loop μ-loop
 loop-again c =
-    let a = c .before .before .before .before .before .before .before .before .before .before .args in
+    let entry = c .before .before .before .before .before .before .before .before .before .before in
+    let a = entry .args in
     let l = c .before .before .before .loop in
-    scanned-on (now (a .directory)) (a .p) (now (a .times)) (now (a .marks)) (now (a .first)) (now (a .next)) (c .before .before .before .before .before .before .before .before .before .before .pre) (l .best) _ (l .v) (l .inv) (c .before .before .loop-test .taken) (c .before .considered .ensures)
+    scanned-on (now (a .directory)) (a .p) (now (a .times)) (now (a .marks)) (now (a .first)) (now (a .next))
+    (entry .pre) (l .best) _ (l .v) (l .inv) (c .before .before .loop-test .taken)
+    (c .before .considered .ensures)
 
 returns : tie.Need-returns Inv-loop μ-loop
 returns c =
-    let a = c .before .before .before .before .before .before .before .before .args in
+    let entry = c .before .before .before .before .before .before .before .before in
+    let a = entry .args in
     let l = c .before .loop in
-    scanned-end (now (a .directory)) (a .p) (now (a .times)) (now (a .marks)) (l .best) (l .v) (l .inv) (c .loop-test .left)
+    scanned-end (now (a .directory)) (a .p) (now (a .times)) (now (a .marks)) (l .best) (l .v) (l .inv)
+    (c .loop-test .left)
 
 pub choose-on-spec : {M : Type 1} → statement M
 choose-on-spec =

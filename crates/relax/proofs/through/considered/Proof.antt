@@ -1,3 +1,4 @@
+-- A stale station is compared with the best so far, as the definition does; any other leaves the best as it is.
 use denote.Ref.{now}
 use Rattle.relax.proofs.Choosing.{considered-stale, considered-other}
 use borrow.Author.Needs.{needs}
@@ -18,13 +19,20 @@ nearer-requires c κs = search needs
 
 returns : tie.Need-returns
 returns c =
-    let a = c .before .before .before .before .before .before .before .args in
-    considered-stale (now (a .times)) (now (a .marks)) (a .v) _ _ (a .best) _ (c .before .before .before .before .time-at .ensures) (c .before .before .before .mark-at .ensures) (c .before .before .is-stale .ensures) _ (c .before .if1 .taken) (c .nearer .ensures)
+    let after-time-at = c .before .before .before .before in
+    let entry = after-time-at .before .before .before in
+    let a = entry .args in
+    considered-stale (now (a .times)) (now (a .marks)) (a .v) _ _ (a .best) _ (after-time-at .time-at .ensures)
+    (c .before .before .before .mark-at .ensures) (c .before .before .is-stale .ensures) _
+    (c .before .if1 .taken) (c .nearer .ensures)
 
 returns-2 : tie.Need-returns-2
 returns-2 c =
-    let a = c .before .before .before .before .before .before .args in
-    considered-other (now (a .times)) (now (a .marks)) (a .v) _ _ (a .best) _ (c .before .before .before .time-at .ensures) (c .before .before .mark-at .ensures) (c .before .is-stale .ensures) (c .if1 .left)
+    let entry = c .before .before .before .before .before .before in
+    let a = entry .args in
+    considered-other (now (a .times)) (now (a .marks)) (a .v) _ _ (a .best) _
+    (c .before .before .before .time-at .ensures) (c .before .before .mark-at .ensures)
+    (c .before .is-stale .ensures) (c .if1 .left)
 
 pub considered-spec : {M : Type 1} → statement M
 considered-spec =

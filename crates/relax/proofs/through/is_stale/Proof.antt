@@ -1,3 +1,4 @@
+-- Each outcome of the first comparison fixes the definition's first test; the second comparison is its second.
 use borrow.Author.Tests.{le-leb, lt-leb}
 use Rattle.relax.proofs.through.is_stale.Statement.{statement}
 use Rattle.relax.proofs.through.is_stale.Tie as tie

@@ -1,3 +1,4 @@
+-- The cases of the definition's comparison: nobody so far, v is nearer, v is not.
 use borrow.Author.Tests.{lt-ltb, le-ltb}
 use borrow.Author.Needs.{needs}
 use Rattle.relax.proofs.through.nearer.Statement.{statement}
@@ -17,16 +18,26 @@ time-at-requires-2 c κs = search needs
 
 returns : tie.Need-returns
 returns c =
-    let a = c .before .before .before .before .before .before .before .args in
-    rw (c .before .before .before .before .best .given .1, ← (c .before .time-at2 .ensures), ← (c .before .before .time-at .ensures), lt-ltb _ _ (c .if1 .taken))
+    let after-best = c .before .before .before .before in
+    rw (
+      after-best .best .given .1,
+      ← (c .before .time-at2 .ensures),
+      ← (c .before .before .time-at .ensures),
+      lt-ltb _ _ (c .if1 .taken),
+    )
 
 returns-2 : tie.Need-returns-2
 returns-2 c = rw (c .enum-told .given .1)
 
 returns-3 : tie.Need-returns-3
 returns-3 c =
-    let a = c .before .before .before .before .before .before .before .args in
-    rw (c .before .before .before .before .best .given .1, ← (c .before .time-at2 .ensures), ← (c .before .before .time-at .ensures), le-ltb _ _ (c .if1 .left))
+    let after-best = c .before .before .before .before in
+    rw (
+      after-best .best .given .1,
+      ← (c .before .time-at2 .ensures),
+      ← (c .before .before .time-at .ensures),
+      le-ltb _ _ (c .if1 .left),
+    )
 
 pub nearer-spec : {M : Type 1} → statement M
 nearer-spec =

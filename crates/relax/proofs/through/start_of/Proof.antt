@@ -1,3 +1,4 @@
+-- Below the end of the offsets noted, the entry is read; past it the default is.
 use mathlib.Core.Path.{sym}
 use denote.Ref.{now}
 use lib.ListN.{List·getD-eq-default}

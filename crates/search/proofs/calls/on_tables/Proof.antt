@@ -1,8 +1,10 @@
+-- Refusals 6 and 7 are tested in this order. Behind both, the first N entries of the tables are exact tables, and a
+-- search on them is the search on the tables lent (`on-longer`, proofs/Handing.antt).
 use mathlib.Core.Path.{_≡_, sym, _∙_, subst}
 use native.Mathlib.Omega.{arith}
-use Prim.Native.Nat.{_≤_, _<_}
+use Prim.Native.Nat.{ℕ, _≤_, _<_}
 use denote.Ref.{now}
-use lib.ListN.{length}
+use lib.ListN.{length, take}
 use lib.Seq.{length-take-le}
 use Rattle.page.specs.Bytes.{Bytes}
 use Rattle.page.proofs.Heading.{formed}
@@ -15,45 +17,84 @@ use borrow.Author.Needs.{needs}
 use Rattle.search.proofs.calls.on_tables.Statement.{statement}
 use Rattle.search.proofs.calls.on_tables.Tie as tie
 
+-- The place behind refusals 6 and 7: each table has an entry for each station.
+module _ (fitting : tie.Then2) where
+  abbrev fitted : tie.After-fits2
+  fitted = fitting .before
+
+  abbrev inside : tie.Else1
+  inside = fitted .before
+
+  abbrev counted : tie.After-station-count
+  counted = inside .before
+
+  abbrev entry : tie.Start
+  entry = counted .before .before .before .before .before .before
+
+  abbrev n : ℕ
+  n = counted .station-count .result
+
+  enough : (n ≤ length (now (entry .args .times))) × (n ≤ length (now (entry .args .preds)))
+      × (n ≤ length (now (entry .args .marks))) × (n ≤ length (now (entry .args .list)))
+  enough = long-enough n _ _ _ _ (not-short _ _ (fitted .fits2 .ensures) (fitting .if2 .taken))
+
+  first-times : length (take n (now (entry .args .times))) ≡ n
+  first-times = length-take-le n (now (entry .args .times)) (enough .0)
+
+  first-preds : length (take n (now (entry .args .preds))) ≡ n
+  first-preds = length-take-le n (now (entry .args .preds)) (enough .1)
+
+  first-marks : length (take n (now (entry .args .marks))) ≡ n
+  first-marks = length-take-le n (now (entry .args .marks)) (enough .2)
+
 station-count-requires : tie.Need-station-count-requires
 station-count-requires c κs = search needs
 
 returns : tie.Need-returns
 returns c =
-    let a = c .before .before .before .before .before .before .before .args in
-    no-source (searchOf (a .df)) (now (a .image)) (a .source) _ (subst (λ n. n ≤ a .source) (c .before .station-count .ensures .0) (c .if1 .taken))
+    let entry = c .before .before .before .before .before .before .before in
+    let a = entry .args in
+    no-source (searchOf (a .df)) (now (a .image)) (a .source) _
+    (subst (λ n. n ≤ a .source) (c .before .station-count .ensures .0) (c .if1 .taken))
 
 fits-requires : tie.Need-fits-requires
 fits-requires c κs = search needs
 
 slice-relend-prefix-search-exact : tie.Need-slice-relend-prefix-search-exact
-slice-relend-prefix-search-exact c = long-enough _ _ _ _ _ (not-short _ _ (c .before .fits2 .ensures) (c .if2 .taken)) .0
+slice-relend-prefix-search-exact c = enough c .0
 
 slice-aggregate-search-exact : tie.Need-slice-aggregate-search-exact
-slice-aggregate-search-exact c = sym (length-take-le _ (now (c .before .before .before .before .before .before .before .before .before .before .args .times)) (long-enough _ _ _ _ _ (not-short _ _ (c .before .before .fits2 .ensures) (c .before .if2 .taken)) .0))
+slice-aggregate-search-exact c = sym (first-times (c .before))
 
 slice-relend-prefix-search-exact-2 : tie.Need-slice-relend-prefix-search-exact-2
-slice-relend-prefix-search-exact-2 c = long-enough _ _ _ _ _ (not-short _ _ (c .before .before .fits2 .ensures) (c .before .if2 .taken)) .1
+slice-relend-prefix-search-exact-2 c = enough (c .before) .1
 
 slice-aggregate-search-exact-2 : tie.Need-slice-aggregate-search-exact-2
-slice-aggregate-search-exact-2 c = sym (length-take-le _ (now (c .before .before .before .before .before .before .before .before .before .before .before .args .preds)) (long-enough _ _ _ _ _ (not-short _ _ (c .before .before .before .fits2 .ensures) (c .before .before .if2 .taken)) .1))
+slice-aggregate-search-exact-2 c = sym (first-preds (c .before .before))
 
 slice-relend-prefix-search-exact-3 : tie.Need-slice-relend-prefix-search-exact-3
-slice-relend-prefix-search-exact-3 c = long-enough _ _ _ _ _ (not-short _ _ (c .before .before .before .fits2 .ensures) (c .before .before .if2 .taken)) .2
+slice-relend-prefix-search-exact-3 c = enough (c .before .before) .2
 
 slice-aggregate-search-exact-3 : tie.Need-slice-aggregate-search-exact-3
-slice-aggregate-search-exact-3 c = sym (length-take-le _ (now (c .before .before .before .before .before .before .before .before .before .before .before .before .args .marks)) (long-enough _ _ _ _ _ (not-short _ _ (c .before .before .before .before .fits2 .ensures) (c .before .before .before .if2 .taken)) .2))
+slice-aggregate-search-exact-3 c = sym (first-marks (c .before .before .before))
 
 search-exact-requires : tie.Need-search-exact-requires
 search-exact-requires c κs =
-    let a = c .before .before .before .before .before .before .before .before .before .before .before .before .before .args in
-    let n = c .before .before .before .before .before .before .before .station-count .result in
-    let enough = long-enough n _ _ _ _ (not-short _ _ (c .before .before .before .before .before .fits2 .ensures) (c .before .before .before .before .if2 .taken)) in
-    let f = formed (now (a .image)) (c .before .before .before .before .before .before .before .before .before .before .before .before .before .pre) in
-    let times = length-take-le n (now (a .times)) (enough .0) in
-    let preds = length-take-le n (now (a .preds)) (enough .1) in
-    let marks = length-take-le n (now (a .marks)) (enough .2) in
-    (c .before .before .before .before .before .before .before .before .before .before .before .before .before .pre, (subst (λ k. a .source < k) (sym times) (c .before .before .before .before .before .before .if1 .left), (times ∙ c .before .before .before .before .before .before .before .station-count .ensures .0 ∙ sym (f .directory), preds ∙ sym times, marks ∙ sym times, subst (λ k. k ≤ length (now (a .list))) (sym times) (enough .3))))
+    let fitting = c .before .before .before .before in
+    let a = entry fitting .args in
+    let pre = entry fitting .pre in
+    let times = first-times fitting in (
+      pre,
+      (
+        subst (λ k. a .source < k) (sym times) (inside fitting .if1 .left),
+        (
+          times ∙ counted fitting .station-count .ensures .0 ∙ sym (formed (now (a .image)) pre .directory),
+          first-preds fitting ∙ sym times,
+          first-marks fitting ∙ sym times,
+          subst (λ k. k ≤ length (now (a .list))) (sym times) (enough fitting .3),
+        ),
+      ),
+    )
 
 same-length : tie.Need-same-length
 same-length c = search needs
@@ -69,27 +110,34 @@ same-length-4 c = search needs
 
 returns-2 : tie.Need-returns-2
 returns-2 c =
-    let a = c .before .before .before .before .before .before .before .before .before .before .before .before .before .before .before .before .before .before .before .before .before .before .args in
+    let after-search-exact = c .before .before .before .before .before .before .before .before in
+    let fitting = after-search-exact .before .before .before .before .before in
+    let bytes-known = counted fitting .before .before .before .before .before in
+    let a = entry fitting .args in
+    let pre = entry fitting .pre in
     let image = now (a .image) in
-    let bytes : Bytes image = λ i. omega (arith, c .before .before .before .before .before .before .before .before .before .before .before .before .before .before .before .before .before .before .before .before .before .shared-slice-known .given i) in
-    let f = formed image (c .before .before .before .before .before .before .before .before .before .before .before .before .before .before .before .before .before .before .before .before .before .before .pre) in
-    let n = c .before .before .before .before .before .before .before .before .before .before .before .before .before .before .before .before .station-count .result in
-    let count = c .before .before .before .before .before .before .before .before .before .before .before .before .before .before .before .before .station-count .ensures .0 in
-    let long = not-short _ _ (c .before .before .before .before .before .before .before .before .before .before .before .before .before .before .fits2 .ensures) (c .before .before .before .before .before .before .before .before .before .before .before .before .before .if2 .taken) in
-    let small = subst (λ k. a .source < k) count (c .before .before .before .before .before .before .before .before .before .before .before .before .before .before .before .if1 .left) in
-    let inside = subst (λ k. a .source < k) (sym (f .directory)) small in
-    let sound = image-sound image bytes (c .before .before .before .before .before .before .before .before .before .before .before .before .before .before .before .before .before .before .before .before .before .before .pre) (a .source) inside in
-    goes-on (searchOf (a .df)) image (a .source) (lent (now (a .times)) (now (a .preds)) (now (a .marks)) (now (a .list))) small (subst (λ k. tooShort k (lent (now (a .times)) (now (a .preds)) (now (a .marks)) (now (a .list))) ≡ false) count long) _
-    (on-longer image (a .source) (now (a .times)) (now (a .preds)) (now (a .marks)) (now (a .list)) n (f .directory ∙ sym count) (a .df) sound _ _ _ _ _ (c .before .before .before .before .before .before .before .before .search-exact .ensures))
+    let bytes : Bytes image = λ i. omega (arith, bytes-known .shared-slice-known .given i) in
+    let t = lent (now (a .times)) (now (a .preds)) (now (a .marks)) (now (a .list)) in
+    let directory = formed image pre .directory in
+    let count = counted fitting .station-count .ensures .0 in
+    let long = not-short _ _ (fitted fitting .fits2 .ensures) (fitting .if2 .taken) in
+    let small = subst (λ k. a .source < k) count (inside fitting .if1 .left) in
+    let sound = image-sound image bytes pre (a .source) (subst (λ k. a .source < k) (sym directory) small) in
+    goes-on (searchOf (a .df)) image (a .source) t small (subst (λ k. tooShort k t ≡ false) count long) _
+    (on-longer image (a .source) (now (a .times)) (now (a .preds)) (now (a .marks)) (now (a .list)) (n fitting)
+    (directory ∙ sym count) (a .df) sound _ _ _ _ _ (after-search-exact .search-exact .ensures))
 
 returns-3 : tie.Need-returns-3
 returns-3 c =
-    let a = c .before .before .before .before .before .before .before .before .before .args in
+    let entry = c .before .before .before .before .before .before .before .before .before in
+    let a = entry .args in
     let image = now (a .image) in
     let count = c .before .before .before .station-count .ensures .0 in
     let t = lent (now (a .times)) (now (a .preds)) (now (a .marks)) (now (a .list)) in
     let short = is-short _ _ (c .before .fits2 .ensures) (c .if2 .left) in
-    short-table (searchOf (a .df)) image (a .source) t (subst (λ k. a .source < k) count (c .before .before .if1 .left)) (subst (λ k. tooShort k t ≡ true) count short)
+    short-table (searchOf (a .df)) image (a .source) t
+    (subst (λ k. a .source < k) count (c .before .before .if1 .left))
+    (subst (λ k. tooShort k t ≡ true) count short)
 
 pub on-tables-spec : {M : Type 1} → statement M
 on-tables-spec =

@@ -1,3 +1,5 @@
+-- The outcome is that of `search`; the demands hold of every outcome of the definition (proofs/Demanded.antt), and so
+-- of this one.
 use mathlib.Core.Path.{sym, subst}
 use mathlib.Core.Bool.{false}
 use native.Mathlib.Omega.{arith}
@@ -27,13 +29,25 @@ same-length-4 c = search needs
 
 returns : tie.Need-returns
 returns c =
-    let a = c .before .before .before .before .before .before .before .before .before .before .before .before .before .before .before .before .before .before .args in
+    let after-search = c .before .before .before .before .before .before .before .before in
+    let after-shared-slice-known =
+    after-search .before .before .before .before .before .before .before .before .before in
+    let entry = after-shared-slice-known .before in
+    let a = entry .args in
     let image = now (a .image) in
     let source = a .source in
-    let bytes : Bytes image = λ i. omega (arith, c .before .before .before .before .before .before .before .before .before .before .before .before .before .before .before .before .before .shared-slice-known .given i) in
+    let bytes : Bytes image = λ i. omega (arith, after-shared-slice-known .shared-slice-known .given i) in
     let t = lent (now (a .times)) (now (a .preds)) (now (a .marks)) (now (a .list)) in
-    let is = c .before .before .before .before .before .before .before .before .search .ensures in
-    (is, (subst (TimesAreLeast image source) (sym is) (times-are-least image source bytes false t), (subst (PageIsFirstBad image source) (sym is) (page-is-first-bad image source bytes false t), same-pages image source t false _ is)))
+    let is = after-search .search .ensures in (
+      is,
+      (
+        subst (TimesAreLeast image source) (sym is) (times-are-least image source bytes false t),
+        (
+          subst (PageIsFirstBad image source) (sym is) (page-is-first-bad image source bytes false t),
+          same-pages image source t false _ is,
+        ),
+      ),
+    )
 
 pub plain-spec : {M : Type 1} → statement M
 plain-spec =

@@ -1,3 +1,5 @@
+-- The heading's check decides: accepted, the rest of the search speaks; refused by 1 to 5, that refusal is the
+-- answer; and it never answers a bad page.
 use mathlib.Core.Path.{refl, sym, ap, _∙_}
 use denote.Ref.{now}
 use Rattle.page.specs.Image.{meaning}
@@ -14,7 +16,10 @@ enum-told : tie.Need-enum-told
 enum-told c = search needs
 
 on-tables-requires : tie.Need-on-tables-requires
-on-tables-requires c κs = sym (c .before .before .before .before .before .before .check-heading .ensures) ∙ ap meaning (c .before .before .before .before .enum-told .given .1)
+on-tables-requires c κs =
+    let after-match = c .before .before .before .before in
+    let after-check-heading = after-match .before .before in
+    sym (after-check-heading .check-heading .ensures) ∙ ap meaning (after-match .enum-told .given .1)
 
 enum-known-number : tie.Need-enum-known-number
 enum-known-number c = search needs
@@ -39,23 +44,35 @@ same-length-4 c = search needs
 
 returns : tie.Need-returns
 returns c =
-    let a = c .before .before .before .before .before .before .before .before .before .before .before .before .before .before .before .before .before .before .before .before .before .args in
-    heading-good (searchOf (a .df)) (now (a .image)) (a .source) _ (sym (c .before .before .before .before .before .before .before .before .before .before .before .before .before .before .before .check-heading .ensures) ∙ ap meaning (c .before .before .before .before .before .before .before .before .before .before .before .before .before .enum-told .given .1)) _ (c .before .before .before .before .before .before .before .before .on-tables .ensures)
+    let after-on-tables = c .before .before .before .before .before .before .before .before in
+    let after-match = after-on-tables .before .before .before .before .before in
+    let after-check-heading = after-match .before .before in
+    let entry = after-check-heading .before .before .before .before .before .before in
+    let a = entry .args in
+    heading-good (searchOf (a .df)) (now (a .image)) (a .source) _
+    (sym (after-check-heading .check-heading .ensures) ∙ ap meaning (after-match .enum-told .given .1)) _
+    (after-on-tables .on-tables .ensures)
 
 returns-2 : tie.Need-returns-2
 returns-2 c =
-    let a = c .before .before .before .before .before .before .before .before .before .args in
-    heading-bad (searchOf (a .df)) (now (a .image)) (a .source) _ _ _ _ _ (c .before .before .before .check-heading .ensures) (c .before .number .given .1) refl
+    let entry = c .before .before .before .before .before .before .before .before .before in
+    let a = entry .args in
+    heading-bad (searchOf (a .df)) (now (a .image)) (a .source) _ _ _ _ _
+    (c .before .before .before .check-heading .ensures) (c .before .number .given .1) refl
 
 returns-3 : tie.Need-returns-3
 returns-3 c =
-    let a = c .before .before .before .before .before .before .before .before .before .args in
-    heading-bad (searchOf (a .df)) (now (a .image)) (a .source) _ _ _ _ _ (c .before .before .before .check-heading .ensures) (c .before .station .given .1) refl
+    let entry = c .before .before .before .before .before .before .before .before .before in
+    let a = entry .args in
+    heading-bad (searchOf (a .df)) (now (a .image)) (a .source) _ _ _ _ _
+    (c .before .before .before .check-heading .ensures) (c .before .station .given .1) refl
 
 returns-4 : tie.Need-returns-4
 returns-4 c =
-    let a = c .before .before .before .before .before .before .before .before .before .args in
-    no-bad-page (now (a .image)) _ _ _ _ _ (c .before .before .before .check-heading .ensures) (c .before .number2 .given .1) refl
+    let entry = c .before .before .before .before .before .before .before .before .before in
+    let a = entry .args in
+    no-bad-page (now (a .image)) _ _ _ _ _ (c .before .before .before .check-heading .ensures)
+    (c .before .number2 .given .1) refl
 
 pub search-spec : {M : Type 1} → statement M
 search-spec =

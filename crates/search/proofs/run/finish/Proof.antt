@@ -1,3 +1,4 @@
+-- Either way that a search can have ended, the tables are cleared as the definition's end leaves them.
 use mathlib.Core.Path.{refl}
 use denote.Ref.{now}
 use Rattle.relax.specs.Tables.{tables}
@@ -29,9 +30,13 @@ same-length-2 c = search needs
 
 returns : tie.Need-returns
 returns c =
-    let a = c .before .before .before .before .before .before .before .before .before .before .before .before .args in
-    let on = c .before .before .before .before .before .before .before .stood .given in
-    left-on (tables (now (a .times)) (now (a .preds)) (now (a .marks))) (tables _ _ _) (a .stood) (on .0 .0) _ (on .1) (c .reached .ensures) refl refl (c .before .before .before .before .clear-marks .ensures)
+    let after-clear-marks = c .before .before .before .before in
+    let after-stood = after-clear-marks .before .before .before in
+    let entry = after-stood .before .before .before .before .before in
+    let a = entry .args in
+    let on = after-stood .stood .given in
+    left-on (tables (now (a .times)) (now (a .preds)) (now (a .marks))) (tables _ _ _) (a .stood) (on .0 .0) _
+    (on .1) (c .reached .ensures) refl refl (after-clear-marks .clear-marks .ensures)
 
 same-length-3 : tie.Need-same-length-3
 same-length-3 c = search needs
@@ -44,10 +49,14 @@ same-length-5 c = search needs
 
 returns-2 : tie.Need-returns-2
 returns-2 c =
-    let a = c .before .before .before .before .before .before .before .before .before .before .before .before .before .before .before .before .args in
-    let on = c .before .before .before .before .before .before .before .before .before .before .before .stood2 .given in
-    let cleared = c .before .before .before .before .before .before .clear .ensures in
-    left-stopped (tables (now (a .times)) (now (a .preds)) (now (a .marks))) (tables _ _ _) (a .stood) _ _ _ _ (on .1) (cleared .0) (cleared .1 .0) (cleared .1 .1)
+    let after-clear = c .before .before .before .before .before .before in
+    let after-stood = after-clear .before .before .before .before .before in
+    let entry = after-stood .before .before .before .before .before in
+    let a = entry .args in
+    let on = after-stood .stood2 .given in
+    let cleared = after-clear .clear .ensures in
+    left-stopped (tables (now (a .times)) (now (a .preds)) (now (a .marks))) (tables _ _ _) (a .stood) _ _ _ _
+    (on .1) (cleared .0) (cleared .1 .0) (cleared .1 .1)
 
 pub finish-spec : {M : Type 1} → statement M
 finish-spec =

@@ -1,3 +1,5 @@
+-- The steps start from the definition's start (`begin`), are the definition's steps (`run`) and end as its end does
+-- (`finish`); `exact` (proofs/Exact.antt) puts the three together.
 use mathlib.Core.Path.{refl, ap, _∙_, subst}
 use native.Mathlib.Omega.{arith}
 use Prim.Native.Nat.{_<_}
@@ -17,6 +19,20 @@ use borrow.Author.Needs.{needs}
 use Rattle.search.proofs.run.search_exact.Statement.{statement}
 use Rattle.search.proofs.run.search_exact.Tie as tie
 
+-- The places of the search, from its end back to its start.
+abbrev finished : tie.After-slice-known14 → tie.After-finish
+finished c = c .before .before .before .before .before .before
+
+abbrev ran-before : tie.After-finish → tie.After-run
+ran-before finished =
+    finished .before .before .before .before .before .before .before .before .before .before .before .before .before
+    .before .before
+
+abbrev begun-before : tie.After-run → tie.After-begin
+begun-before ran =
+    ran .before .before .before .before .before .before .before .before .before .before .before .before .before
+    .before .before .before .before
+
 directory-of-requires : tie.Need-directory-of-requires
 directory-of-requires c κs = search needs
 
@@ -28,8 +44,9 @@ slice-aggregate-thread-2 c = search needs
 
 thread-requires : tie.Need-thread-requires
 thread-requires c κs =
-    let image = now (c .before .before .before .before .before .before .before .before .args .image) in
-    let f = formed image (c .before .before .before .before .before .before .before .before .pre .0) in
+    let entry = c .before .before .before .before .before .before .before .before in
+    let image = now (entry .args .image) in
+    let f = formed image (entry .pre .0) in
     (omega (arith, ap length (c .before .before .directory-of .ensures), f .directory, f .stations-most), refl, refl)
 
 slice-aggregate-begin : tie.Need-slice-aggregate-begin
@@ -37,8 +54,11 @@ slice-aggregate-begin c = search needs
 
 begin-requires : tie.Need-begin-requires
 begin-requires c κs =
-    let pre = c .before .before .before .before .before .before .before .before .before .before .before .before .before .before .before .pre in
-    let f = formed (now (c .before .before .before .before .before .before .before .before .before .before .before .before .before .before .before .args .image)) (pre .0) in
+    let entry =
+    c .before .before .before .before .before .before .before .before .before .before .before .before
+    .before .before .before in
+    let pre = entry .pre in
+    let f = formed (now (entry .args .image)) (pre .0) in
     ((pre .1 .0, omega (arith, pre .1 .1 .0, f .directory, f .stations-most)), ((pre .1 .1 .1, pre .1 .1 .2), refl))
 
 slice-aggregate-run : tie.Need-slice-aggregate-run
@@ -58,18 +78,32 @@ slice-aggregate-run-5 c = search needs
 
 run-requires : tie.Need-run-requires
 run-requires c κs =
-    let a = c .before .before .before .before .before .before .before .before .before .before .before .before .before .before .before .before .before .before .before .before .before .before .before .before .before .before .before .before .before .before .before .before .args in
-    let pre = c .before .before .before .before .before .before .before .before .before .before .before .before .before .before .before .before .before .before .before .before .before .before .before .before .before .before .before .before .before .before .before .before .pre in
-    let begun = c .before .before .before .before .before .before .before .before .before .before .before .before .before .before .before .before .begin in (
-      subst (λ d. Threaded d (c .before .before .before .before .before .before .before .before .before .before .before .before .before .before .before .before .before .before .before .before .before .before .before .thread .last .1 .0) (c .before .before .before .before .before .before .before .before .before .before .before .before .before .before .before .before .before .before .before .before .before .before .before .thread .last .1 .1 .0)) (c .before .before .before .before .before .before .before .before .before .before .before .before .before .before .before .before .before .before .before .before .before .before .before .before .before .before .directory-of .ensures) (c .before .before .before .before .before .before .before .before .before .before .before .before .before .before .before .before .before .before .before .before .before .before .before .thread .ensures),
-      (begun .kept .1 .0 ∙ pre .1 .1 .0, (omega (arith, begun .kept .1 .0, pre .1 .1 .3), (known-none (now (a .image)), begun .ensures .1))),
+    let after-begin =
+    c .before .before .before .before .before .before .before .before .before .before .before .before
+    .before .before .before .before in
+    let after-thread = after-begin .before .before .before .before .before .before .before in
+    let after-directory-of = after-thread .before .before .before in
+    let entry = after-directory-of .before .before .before .before .before .before in
+    let a = entry .args in
+    let pre = entry .pre in
+    let begun = after-begin .begin in (
+      subst (λ d. Threaded d (after-thread .thread .last .1 .0) (after-thread .thread .last .1 .1 .0))
+          (after-directory-of .directory-of .ensures) (after-thread .thread .ensures),
+      (
+        begun .kept .1 .0 ∙ pre .1 .1 .0,
+        (omega (arith, begun .kept .1 .0, pre .1 .1 .3), (known-none (now (a .image)), begun .ensures .1)),
+      ),
     )
 
 finish-requires : tie.Need-finish-requires
 finish-requires c κs = search needs
 
 same-length : tie.Need-same-length
-same-length c = c .before .before .before .before .before .before .finish .kept .1 .0 ∙ c .before .before .before .before .before .before .before .before .before .before .before .before .before .before .before .before .before .before .before .before .before .run .kept .1 .1 .1 .1 .1 .1 .0 ∙ c .before .before .before .before .before .before .before .before .before .before .before .before .before .before .before .before .before .before .before .before .before .before .before .before .before .before .before .before .before .before .before .before .before .before .before .before .before .before .begin .kept .1 .0
+same-length c =
+    let after-finish = finished c in
+    let after-run = ran-before after-finish in
+    let after-begin = begun-before after-run in
+    after-finish .finish .kept .1 .0 ∙ after-run .run .kept .1 .1 .1 .1 .1 .1 .0 ∙ after-begin .begin .kept .1 .0
 
 same-length-2 : tie.Need-same-length-2
 same-length-2 c = search needs
@@ -82,21 +116,31 @@ same-length-4 c = search needs
 
 returns : tie.Need-returns
 returns c =
-    let start = c .before .before .before .before .before .before .before .before .before .before .before .before .before .before .before .before .before .before .before .before .before .before .before .before .before .before .before .before .before .before .before .before .before .before .before .before .before .before .before .before .before .before .before .before .before .before .before .before .before .before .before .before .before .before in
-    let a = start .args in
-    let pre = start .pre in
+    let after-finish = finished c in
+    let after-run = ran-before after-finish in
+    let after-begin = begun-before after-run in
+    let after-shared-slice-known =
+    after-begin .before .before .before .before .before .before .before .before .before .before .before
+    .before .before .before .before in
+    let entry = after-shared-slice-known .before in
+    let a = entry .args in
+    let pre = entry .pre in
     let image = now (a .image) in
-    let bytes : Bytes image = λ i. omega (arith, c .before .before .before .before .before .before .before .before .before .before .before .before .before .before .before .before .before .before .before .before .before .before .before .before .before .before .before .before .before .before .before .before .before .before .before .before .before .before .before .before .before .before .before .before .before .before .before .before .before .before .before .before .before .shared-slice-known .given i) in
+    let bytes : Bytes image = λ i. omega (arith, after-shared-slice-known .shared-slice-known .given i) in
     let size = pre .1 .1 .0 in
-    let begun = c .before .before .before .before .before .before .before .before .before .before .before .before .before .before .before .before .before .before .before .before .before .before .before .before .before .before .before .before .before .before .before .before .before .before .before .before .before .before .begin in
+    let begun = after-begin .begin in
     let first = tables (begun .last .1 .0) (begun .last .1 .1 .0) (begun .last .1 .1 .1 .0) in
-    let ran = c .before .before .before .before .before .before .before .before .before .before .before .before .before .before .before .before .before .before .before .before .before .run in
+    let ran = after-run .run in
     let kept = ran .kept .1 .1 .1 .1 .1 .1 in
-    let done = c .before .before .before .before .before .before .finish .ensures in
+    let done = after-finish .finish .ensures in
     let sound = image-sound image bytes (pre .0) (a .source) (subst (λ n. a .source < n) size (pre .1 .0)) in
-    let steps = ran .ensures .0 ∙ ap (λ n. stepsOf (a .df) image n (standing first (now (a .list)) (On 0))) (begun .kept .1 .0 ∙ size) in
+    let steps =
+    ran .ensures .0 ∙
+    ap (λ n. stepsOf (a .df) image n (standing first (now (a .list)) (On 0))) (begun .kept .1 .0 ∙ size) in
     let last = ran .last .1 .1 .1 .1 .1 .1 in
-    exact (a .df) image (a .source) sound (lent (now (a .times)) (now (a .preds)) (now (a .marks)) (now (a .list))) first (tables (last .0) (last .1 .0) (last .1 .1 .0)) (tables _ _ _) (last .1 .1 .1 .1 .0) (ran .result) _
+    exact (a .df) image (a .source) sound
+    (lent (now (a .times)) (now (a .preds)) (now (a .marks)) (now (a .list))) first
+    (tables (last .0) (last .1 .0) (last .1 .1 .0)) (tables _ _ _) (last .1 .1 .1 .1 .0) (ran .result) _
     (subst (λ n. Begun (a .source) n first) size (begun .ensures .0)) steps
     (record {
       times = kept .0 ∙ begun .kept .1 .0 ∙ size;

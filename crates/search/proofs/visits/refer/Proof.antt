@@ -1,12 +1,44 @@
-use mathlib.Core.Path.{refl, sym, ap, _∙_}
+-- The byte read is the station's page. A good page has its moves noted, and working on it is the definition's visit;
+-- a bad page stops the search with the page as the list's last entry.
+use mathlib.Core.Path.{_≡_, refl, sym, ap, _∙_}
 use native.Mathlib.Omega.{arith}
 use denote.Ref.{now}
 use lib.ListN.{getD, set}
 use Rattle.page.specs.Bytes.{Bytes}
+use Rattle.page.specs.Image.{directoryOf}
 use Rattle.search.proofs.Visiting.{noted-inside, referred-good, referred-bad}
 use borrow.Author.Needs.{needs}
 use Rattle.search.proofs.visits.refer.Statement.{statement}
 use Rattle.search.proofs.visits.refer.Tie as tie
+
+-- The place where the page has been fetched: the byte read before is the page of the station.
+module _ (fetched : tie.After-fetch) where
+  abbrev named : tie.After-byte-at
+  named = fetched .before .before .before
+
+  abbrev directory-found : tie.After-directory-of
+  directory-found = named .before
+
+  abbrev bytes-known : tie.After-shared-slice-known
+  bytes-known = directory-found .before .before .before .before .before .before .before .before .before .before
+
+  abbrev entry : tie.Start
+  entry = bytes-known .before
+
+  bytes : Bytes (now (entry .args .image))
+  bytes = λ i. omega (arith, bytes-known .shared-slice-known .given i)
+
+  on-page : getD (directoryOf (now (entry .args .image))) (entry .args .u) 0 ≡ named .byte-at .result
+  on-page =
+      sym
+      (named .byte-at .ensures ∙ ap (λ d. getD d (entry .args .u) 0) (directory-found .directory-of .ensures))
+
+-- Where the page was found good, and where it has been worked on.
+abbrev fetched-good : tie.After-enum-told → tie.After-fetch
+fetched-good good = good .before .before .before .before .before .before
+
+abbrev found-good : tie.After-work → tie.After-enum-told
+found-good worked = worked .before .before .before .before .before .before
 
 directory-of-requires : tie.Need-directory-of-requires
 directory-of-requires c κs = search needs
@@ -25,17 +57,21 @@ enum-told c = search needs
 
 work-requires : tie.Need-work-requires
 work-requires c κs =
-    let a = c .before .before .before .before .before .before .before .before .before .before .before .before .before .before .before .before .before .before .before .before .before .before .before .before .before .before .args in
-    let pre = c .before .before .before .before .before .before .before .before .before .before .before .before .before .before .before .before .before .before .before .before .before .before .before .before .before .before .pre in
-    let image = now (a .image) in
-    let bytes : Bytes image = λ i. omega (arith, c .before .before .before .before .before .before .before .before .before .before .before .before .before .before .before .before .before .before .before .before .before .before .before .before .before .shared-slice-known .given i) in
-    let on = sym (c .before .before .before .before .before .before .before .before .before .before .before .before .before .before .byte-at .ensures ∙ ap (λ d. getD d (a .u) 0) (c .before .before .before .before .before .before .before .before .before .before .before .before .before .before .before .directory-of .ensures)) in
-    let noted = c .before .before .before .before .before .before .before .before .before .before .before .fetch .ensures .1 .0 (c .before .before .before .before .before .enum-told .given .1) in
-    (pre .0, (pre .1 .0, ((pre .1 .1 .0, on), (noted-inside image bytes _ _ noted, pre .1 .1 .1 .1 .1))))
+    let good = c .before .before .before .before .before in
+    let fetched = fetched-good good in
+    let pre = entry fetched .pre in
+    let noted = fetched .fetch .ensures .1 .0 (good .enum-told .given .1) in (
+      pre .0,
+      (
+        pre .1 .0,
+        ((pre .1 .1 .0, on-page fetched), (noted-inside _ (bytes fetched) _ _ noted, pre .1 .1 .1 .1 .1)),
+      ),
+    )
 
 add-t37 : tie.Need-add-t37
 add-t37 c =
-    let start = c .before .before .before .before .before .before .before .before .before .before .before .before .before .before .before .before .before .before .before .before .before .before .before .before .before .before .before .before .before .before .before .before .before .before .before in
+    let worked = c .before .before .before .before .before .before .before .before in
+    let start = entry (fetched-good (found-good worked)) in
     omega (arith, start .pre .1 .1 .1 .0, start .good .1 .1 .1 .1 .1 .1 .1 .1 .1 .1 .1 .1 .0)
 
 enum-known-number : tie.Need-enum-known-number
@@ -43,7 +79,7 @@ enum-known-number c = search needs
 
 add-t38 : tie.Need-add-t38
 add-t38 c =
-    let start = c .before .before .before .before .before .before .before .before .before .before .before .before .before .before .before .before .before .before .before .before .before .before in
+    let start = entry (c .before .before .before .before .before .before .before) in
     omega (arith, start .pre .1 .1 .1 .0, start .good .1 .1 .1 .1 .1 .1 .1 .1 .1 .1 .1 .1 .0)
 
 same-length : tie.Need-same-length
@@ -69,14 +105,18 @@ same-length-7 c = search needs
 
 returns : tie.Need-returns
 returns c =
-    let a = c .before .before .before .before .before .before .before .before .before .before .before .before .before .before .before .before .before .before .before .before .before .before .before .before .before .before .before .before .before .before .before .before .before .before .before .args in
-    let pre = c .before .before .before .before .before .before .before .before .before .before .before .before .before .before .before .before .before .before .before .before .before .before .before .before .before .before .before .before .before .before .before .before .before .before .before .pre in
-    let image = now (a .image) in
-    let bytes : Bytes image = λ i. omega (arith, c .before .before .before .before .before .before .before .before .before .before .before .before .before .before .before .before .before .before .before .before .before .before .before .before .before .before .before .before .before .before .before .before .before .before .shared-slice-known .given i) in
-    let on = sym (c .before .before .before .before .before .before .before .before .before .before .before .before .before .before .before .before .before .before .before .before .before .before .before .byte-at .ensures ∙ ap (λ d. getD d (a .u) 0) (c .before .before .before .before .before .before .before .before .before .before .before .before .before .before .before .before .before .before .before .before .before .before .before .before .directory-of .ensures)) in
-    let noted = c .before .before .before .before .before .before .before .before .before .before .before .before .before .before .before .before .before .before .before .before .fetch .ensures .1 .0 (c .before .before .before .before .before .before .before .before .before .before .before .before .before .before .enum-told .given .1) in
-    let worked = c .before .before .before .before .before .before .before .before .work .ensures in
-    (referred-good image bytes _ _ noted (a .df) (a .u) (a .count) _ _ (now (a .list)) _ on (pre .1 .1 .1 .0) refl (worked .0), ((refl, ap (set (now (a .list)) (a .count)) (sym on)), (c .before .before .before .before .before .before .before .before .before .before .before .before .before .before .before .before .before .before .before .before .fetch .ensures .1 .1, worked .1)))
+    let after-work = c .before .before .before .before .before .before .before .before in
+    let good = found-good after-work in
+    let fetched = fetched-good good in
+    let a = entry fetched .args in
+    let pre = entry fetched .pre in
+    let on = on-page fetched in
+    let noted = fetched .fetch .ensures .1 .0 (good .enum-told .given .1) in
+    let worked = after-work .work .ensures in (
+      referred-good (now (a .image)) (bytes fetched) _ _ noted (a .df) (a .u) (a .count) _ _ (now (a .list)) _ on
+          (pre .1 .1 .1 .0) refl (worked .0),
+      ((refl, ap (set (now (a .list)) (a .count)) (sym on)), (fetched .fetch .ensures .1 .1, worked .1)),
+    )
 
 same-length-8 : tie.Need-same-length-8
 same-length-8 c = search needs
@@ -89,12 +129,14 @@ same-length-10 c = search needs
 
 returns-2 : tie.Need-returns-2
 returns-2 c =
-    let a = c .before .before .before .before .before .before .before .before .before .before .before .before .before .before .before .before .before .before .before .before .before .before .args in
-    let pre = c .before .before .before .before .before .before .before .before .before .before .before .before .before .before .before .before .before .before .before .before .before .before .pre in
-    let image = now (a .image) in
-    let on = sym (c .before .before .before .before .before .before .before .before .before .before .byte-at .ensures ∙ ap (λ d. getD d (a .u) 0) (c .before .before .before .before .before .before .before .before .before .before .before .directory-of .ensures)) in
-    let bad = c .before .number .given in
-    (referred-bad image (a .df) (a .u) (a .count) _ _ _ _ (now (a .list)) _ on (pre .1 .1 .1 .0) refl (sym (c .before .before .before .before .before .before .before .fetch .ensures .0) ∙ bad .1), ((refl, ap (set (now (a .list)) (a .count)) (sym on)), (c .before .before .before .before .before .before .before .fetch .ensures .1 .1, pre .1 .1 .1 .1 .1)))
+    let fetched = c .before .before .before .before .before .before .before in
+    let a = entry fetched .args in
+    let pre = entry fetched .pre in
+    let on = on-page fetched in
+    let verdict = sym (fetched .fetch .ensures .0) ∙ c .before .number .given .1 in (
+      referred-bad (now (a .image)) (a .df) (a .u) (a .count) _ _ _ _ (now (a .list)) _ on (pre .1 .1 .1 .0) refl verdict,
+      ((refl, ap (set (now (a .list)) (a .count)) (sym on)), (fetched .fetch .ensures .1 .1, pre .1 .1 .1 .1 .1)),
+    )
 
 pub refer-spec : {M : Type 1} → statement M
 refer-spec =

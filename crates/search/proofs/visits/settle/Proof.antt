@@ -1,3 +1,4 @@
+-- The mark written is that of a settled station, and the queue without it is the queue of the new marks.
 use mathlib.Core.Path.{ap, _∙_}
 use Prim.Native.Nat.{_+_, _*_, _/_}
 use denote.Ref.{now}
@@ -30,10 +31,14 @@ same-length-2 c = search needs
 
 returns : tie.Need-returns
 returns c =
-    let a = c .before .before .before .before .before .before .before .before .before .before .before .before .before .args in
-    let mark = c .before .before .before .before .before .before .before .before .mark-at .ensures in (
-      c .before .before .before .before .before .before .set-mark .ensures ∙ ap (λ m. set (now (a .marks)) (a .u) (m / 2 * 2 + 1)) mark,
-      settled-queue (now (a .tree)) (now (a .times)) (now (a .marks)) (a .u) _ _ _ (c .before .before .before .before .before .before .before .before .before .before .before .before .before .pre .1) (c .before .before .before .before .before .before .before .before .before .before .before .before .before .pre .0) mark (c .before .before .before .before .before .before .set-mark .ensures) (c .before .before .put .ensures),
+    let after-set-mark = c .before .before .before .before .before .before in
+    let after-mark-at = after-set-mark .before .before in
+    let entry = after-mark-at .before .before .before .before .before in
+    let a = entry .args in
+    let mark = after-mark-at .mark-at .ensures in (
+      after-set-mark .set-mark .ensures ∙ ap (λ m. set (now (a .marks)) (a .u) (m / 2 * 2 + 1)) mark,
+      settled-queue (now (a .tree)) (now (a .times)) (now (a .marks)) (a .u) _ _ _ (entry .pre .1)
+          (entry .pre .0) mark (after-set-mark .set-mark .ensures) (c .before .before .put .ensures),
     )
 
 pub settle-spec : {M : Type 1} → statement M

@@ -1,0 +1,41 @@
+// The text of an answer: `accepted, count 3, reached 7`, or the refusal's number with the place that it names.
+
+use libc::STDOUT_FILENO;
+use search::Answer;
+
+// Prints a number behind some text.
+pub fn print_number(before: &[u8], number: u64) {
+    io::write_all(STDOUT_FILENO, before);
+    io::print_decimal(STDOUT_FILENO, number);
+}
+
+fn print_accepted(count: usize, reached: usize) {
+    print_number(b"accepted, count ", count as u64);
+    print_number(b", reached ", reached as u64);
+}
+
+fn print_no_page(station: u16) {
+    print_number(b"refused 5, station ", station as u64);
+}
+
+fn print_bad_page(number: u8, page: u8, offset: usize, count: usize) {
+    print_number(b"refused ", number as u64);
+    print_number(b", page ", page as u64);
+    print_number(b", offset ", offset as u64);
+    print_number(b", count ", count as u64);
+}
+
+pub fn print_answer(answer: Answer) {
+    match answer {
+        Answer::Accepted { count, reached } => print_accepted(count, reached),
+        Answer::Refused(number) => print_number(b"refused ", number as u64),
+        Answer::NoPage(station) => print_no_page(station),
+        Answer::BadPage {
+            number,
+            page,
+            offset,
+            count,
+        } => print_bad_page(number, page, offset, count),
+    }
+    io::write_all(STDOUT_FILENO, b"\n");
+}

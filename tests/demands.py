@@ -1,0 +1,205 @@
+"""What documents 00 and 01 promise of the two searches, checked without the steps of a search.
+
+    check(image, source, lengths, plain, df, rng)    stops by an AssertionError where a promise is broken
+
+Least times come from rounds over all moves until nothing falls (Bellman and Ford), predecessors from the times
+alone, the refused page from document 01's sentence, Dijkstra's list from the order of the least times, and ours from
+the times that are known after each reference. `plain` and `df` are the searches under check; they are called again on
+images whose unlisted pages hold other bytes.
+"""
+from collections import Counter
+
+from reader import PAGE, read_page
+
+NO_TIME = 4294967295
+SOURCE, NOBODY = 65534, 65535
+
+
+def number_at(image, at):
+    return image[at] + 256 * image[at + 1]
+
+
+def first_refusal(image, source, lengths):
+    """1 to 7, "tried in this order": the first that holds, with its place, or None."""
+    if len(image) < 4:
+        return (1,)
+    n, p = number_at(image, 0), number_at(image, 2)
+    no_page = [s for s, page in enumerate(image[4:4 + n]) if page >= p]
+    rows = [(2, n == 0 or n > 2048), (3, p == 0 or p > 240), (4, len(image) != 4 + n + 256 * p), (5, no_page),
+            (6, source >= n), (7, min(lengths) < n)]
+    for number, holds in rows:
+        if holds:
+            return (5, no_page[0]) if number == 5 else (number,)
+    return None
+
+
+class Map:
+    """An image that 1 to 5 accept: its directory, its good pages' moves and its bad pages' faults."""
+
+    def __init__(self, image):
+        self.n, pages = number_at(image, 0), number_at(image, 2)
+        self.directory = image[4:4 + self.n]
+        self.faults, self.moves = {}, []  # page -> (number, offset); (from, target, time)
+        for p in range(pages):
+            at = 4 + self.n + PAGE * p
+            reading = read_page(self.n, self.directory, p, image[at:at + PAGE])
+            if reading[0] == 'bad':
+                self.faults[p] = reading[1:]
+            else:
+                self.moves += [(u, v, time) for u, leaving in reading[1] for v, time in leaving]
+
+    def is_bad(self, s):
+        return self.directory[s] in self.faults
+
+
+def lower(times, moves):
+    """Lowers times along the moves until none falls."""
+    falls = True
+    while falls:
+        falls = False
+        for u, v, time in moves:
+            if u in times and times[u] + time < times.get(v, NO_TIME):
+                times[v] = times[u] + time
+                falls = True
+
+
+def least_times(yard, source):
+    """"Least .. over walks that leave only stations on good pages": only those have moves here."""
+    times = {source: 0}
+    lower(times, yard.moves)
+    return times
+
+
+def lowest_predecessors(yard, source, times):
+    """"source 65,534; none 65,535; otherwise the lowest station whose time plus move gives v's time\""""
+    found = [NOBODY] * yard.n
+    for u, v, time in yard.moves:
+        if u in times and times[u] + time == times[v]:
+            found[v] = min(found[v], u)
+    found[source] = SOURCE
+    return found
+
+
+def settled_order(yard, times):
+    """The stations by least time and number, up to the first on a bad page."""
+    order = []
+    for s in sorted(times, key=lambda s: (times[s], s)):
+        order.append(s)
+        if yard.is_bad(s):
+            break
+    return order
+
+
+def df_list(yard, source, order):
+    """Our list, from the times known after each reference.
+
+    A reference to a page makes known all times that walks on that page give, from the times known before. A station of
+    the order calls for one unless its page was referred to and its time hasn't fallen since.
+    """
+    on_page = {}
+    for u, v, time in yard.moves:
+        on_page.setdefault(yard.directory[u], []).append((u, v, time))
+    known, after, made = {source: 0}, {}, []
+    for s in order:
+        p = yard.directory[s]
+        if p in after and after[p].get(s) == known[s]:
+            continue
+        made.append(p)
+        lower(known, on_page.get(p, []))
+        after[p] = {v: time for v, time in known.items() if yard.directory[v] == p}
+    return made
+
+
+def one_page_reads(pages):
+    """"1 for its first entry, 1 for each entry unlike the one before\""""
+    return sum(1 for i, p in enumerate(pages) if i == 0 or pages[i - 1] != p)
+
+
+def is_part_of(part, whole):
+    """Whether striking entries from `whole` can leave `part`."""
+    rest = iter(whole)
+    return all(any(entry == other for other in rest) for entry in part)
+
+
+def entry_stations(yard, source, listed):
+    """How many entry stations each listed page has: the source, and the targets of moves from other listed pages."""
+    entries = {source}
+    for u, v, _ in yard.moves:
+        if yard.directory[u] in listed and yard.directory[u] != yard.directory[v]:
+            entries.add(v)
+    return Counter(yard.directory[s] for s in entries if yard.directory[s] in listed)
+
+
+def spells_a_walk(yard, source, times, predecessors):
+    """Whether the predecessors lead from every station with a time back to the source, by moves that add up to it."""
+    moves = {(u, v): time for u, v, time in yard.moves}
+    for v in times:
+        if v != source:
+            u = predecessors[v]
+            # every move takes time, so the times fall towards the source
+            if u not in times or times[u] + moves.get((u, v), NO_TIME) != times[v]:
+                return False
+    return times[source] == 0 and predecessors[source] == SOURCE
+
+
+def other_image(image, listed, rng):
+    """An image of the same length, heading and directory that has other bytes on all pages but the listed ones."""
+    begin = 4 + (number_at(image, 0) if len(image) >= 4 else 0)
+    made = bytearray(image)
+    for at in range(begin, len(made), PAGE):
+        if (at - begin) // PAGE not in listed:
+            made[at:at + PAGE] = rng.randbytes(len(made[at:at + PAGE]))
+    return bytes(made)
+
+
+def check_accepted(yard, source, times, outcome):
+    """Demand 2."""
+    n = yard.n
+    assert outcome.answer == ('accepted', len(outcome.list), len(times))
+    assert outcome.times == [times.get(s, NO_TIME) for s in range(n)]
+    assert outcome.predecessors == lowest_predecessors(yard, source, times)
+    assert outcome.marks == [0] * n
+    assert spells_a_walk(yard, source, times, outcome.predecessors)
+
+
+def check_refused(yard, place, outcome):
+    n = yard.n
+    p = yard.directory[place]
+    number, offset = yard.faults[p]
+    assert outcome.answer == ('refused', number, p, offset, len(outcome.list))
+    assert outcome.list[-1] == p and p not in outcome.list[:-1]
+    assert (outcome.times, outcome.predecessors, outcome.marks) == ([NO_TIME] * n, [NOBODY] * n, [0] * n)
+
+
+def check_list(yard, source, ours, dijkstras):
+    """Demand 3, up to the two images."""
+    assert is_part_of(ours, dijkstras)
+    entries = entry_stations(yard, source, set(ours))
+    assert all(often <= entries[p] for p, often in Counter(ours).items())
+    assert one_page_reads(ours) <= one_page_reads(dijkstras)
+
+
+def check_map(yard, source, plain, df):
+    times = least_times(yard, source)
+    order = settled_order(yard, times)
+    bad = [s for s in times if yard.is_bad(s)]
+    for outcome in (plain, df):
+        if bad:
+            check_refused(yard, min(bad, key=lambda s: (times[s], s)), outcome)
+        else:
+            check_accepted(yard, source, times, outcome)
+    assert plain.list == [yard.directory[s] for s in order]
+    assert df.list == df_list(yard, source, order)
+    check_list(yard, source, df.list, plain.list)
+
+
+def check(image, source, lengths, plain, df, rng):
+    outcomes = plain(image, source, lengths), df(image, source, lengths)
+    refusal = first_refusal(image, source, lengths)
+    if refusal:
+        assert all(outcome == (('refused',) + refusal, [], [], [], []) for outcome in outcomes)
+    else:
+        check_map(Map(image), source, *outcomes)
+    for search, outcome in zip((plain, df), outcomes):
+        assert search(other_image(image, set(outcome.list), rng), source, lengths) == outcome
+    return outcomes

@@ -1,0 +1,529 @@
+"""Writes the cases of the program search_test, crates/search_test/stdin, and what it must print, stdout beside it.
+
+    python3 tests/make_search_cases.py            write both files
+    python3 tests/make_search_cases.py --check    only compare them with what would be written; exit 1 on a difference
+
+The expected text comes from searches.py. demands.py holds each outcome against what the documents promise, and where
+document 01 states an answer, a list, times or predecessors, the case below states them by hand; the generator stops
+where one of these says otherwise.
+"""
+import random
+import sys
+from pathlib import Path
+
+from demands import check
+from reader import PAGE
+from searches import df, plain
+
+FOLDER = Path(__file__).resolve().parent.parent / 'crates' / 'search_test'
+
+# What stands in each table before a call: times, predecessors, marks, page list.
+BEFORE = (2863311530, 43690, 170, 187)
+NAMES = ('times', 'predecessors', 'marks', 'list')
+MOST_RUNS = 64
+PRIME = 4294967291
+
+
+# Maps and pages
+
+def u16(number):
+    return number.to_bytes(2, 'little')
+
+
+def u32(number):
+    return number.to_bytes(4, 'little')
+
+
+def station(number):
+    return b'\x01' + u16(number)
+
+
+def move(target, time):
+    return b'\x02' + u16(target) + u16(time)
+
+
+def page(*parts):
+    """The parts, and zeros to the end of the page."""
+    data = b''.join(parts)
+    assert len(data) <= PAGE
+    return data + bytes(PAGE - len(data))
+
+
+def image(directory, *pages, p=None):
+    """An image; p stands in for the true page count."""
+    p = len(pages) if p is None else p
+    return u16(len(directory)) + u16(p) + bytes(directory) + b''.join(pages)
+
+
+def spelled(directory, moves, pages):
+    """The image of a map whose station s has the moves moves.get(s): (target, time) pairs, in any order."""
+    made = []
+    for p in range(pages):
+        own = [s for s in range(len(directory)) if directory[s] == p]
+        made.append(page(*[station(s) + b''.join(move(*m) for m in sorted(moves.get(s, []))) for s in own]))
+    return image(directory, *made)
+
+
+def drawn(directory, text, pages=None):
+    """The image of a map written as document 01 writes one: `0-1/4, 0-4/2`."""
+    moves = {}
+    for one in text.replace(',', ' ').split():
+        way, time = one.split('/')
+        begin, target = map(int, way.split('-'))
+        moves.setdefault(begin, []).append((target, int(time)))
+    return spelled(directory, moves, max(directory) + 1 if pages is None else pages)
+
+
+def damaged(data, *changes):
+    """The bytes with each change (offset, value) made."""
+    data = bytearray(data)
+    for at, value in changes:
+        data[at] = value
+    return bytes(data)
+
+
+def page_begins(data, p):
+    """Where page p begins."""
+    return 4 + int.from_bytes(data[:2], 'little') + PAGE * p
+
+
+# The expected text
+
+def answer_words(answer):
+    if answer[0] == 'accepted':
+        return 'accepted, count {}, reached {}'.format(*answer[1:])
+    names = {1: (), 2: ('station',), 4: ('page', 'offset', 'count')}[len(answer) - 1]
+    return ', '.join([f'refused {answer[1]}'] + [f'{name} {value}' for name, value in zip(names, answer[2:])])
+
+
+def runs(entries):
+    """The entries as runs of equal ones: (value, count) pairs."""
+    made = []
+    for entry in entries:
+        if made and made[-1][0] == entry:
+            made[-1][1] += 1
+        else:
+            made.append([entry, 1])
+    return made
+
+
+def run_words(value, count):
+    return f' {value}' if count == 1 else f' {value}*{count}'
+
+
+def table_words(entries):
+    """A table as the program prints it: its runs, or its length, digest and last run."""
+    parts = runs(entries)
+    if len(parts) <= MOST_RUNS:
+        return ''.join(run_words(*part) for part in parts)
+    digest = 0
+    for entry in entries:
+        digest = (digest * 65599 + entry + 1) % PRIME
+    return f' length {len(entries)}, digest {digest}, last{run_words(*parts[-1])}'
+
+
+def after(outcome, lengths):
+    """All entries of the four tables after a call."""
+    for written, length, before in zip(outcome[1:], lengths, BEFORE):
+        assert len(written) <= length
+        yield list(written) + [before] * (length - len(written))
+
+
+def call_lines(source, lengths, changes, outcomes):
+    """The lines that the program prints for a call."""
+    yield f' from {source}, tables ' + ' '.join(map(str, lengths))
+    for at, value in changes:
+        yield f'  byte {at} becomes {value}'
+    for name, outcome in zip(('plain', 'df'), outcomes):
+        yield f'  {name}: {answer_words(outcome.answer)}'
+        for table, entries in zip(NAMES, after(outcome, lengths)):
+            yield f'   {table}{table_words(entries)}'
+
+
+# The cases
+
+class Cases:
+    """The maps with their calls: the bytes that the program reads, and the lines that it must print."""
+
+    def __init__(self):
+        self.maps, self.calls, self.searches = 0, 0, {}
+        self.stream, self.lines = [], []
+        self.rng = random.Random(240)  # the bytes of unlisted pages in second images
+
+    def add(self, label, data, calls):
+        text = label.encode('ascii')
+        self.stream += [bytes([len(text)]), u16(len(calls)), u32(len(data)), text, data]
+        self.lines.append(label)
+        self.maps += 1
+        for one in calls:
+            data = damaged(data, *one.changes)
+            self.add_call(label, data, one)
+
+    def add_call(self, label, data, one):
+        lengths = one.lengths
+        if lengths is None:
+            lengths = (int.from_bytes(data[:2], 'little'),) * 4
+        outcomes = check(data, one.source, lengths, plain, df, self.rng)
+        one.compare(label, outcomes)
+        self.stream += [u16(one.source), *map(u16, lengths), bytes([len(one.changes)])]
+        self.stream += [u32(at) + bytes([value]) for at, value in one.changes]
+        self.lines += call_lines(one.source, lengths, one.changes, outcomes)
+        self.calls += 1
+        for outcome in outcomes:
+            kind = outcome.answer[0] if outcome.answer[0] == 'accepted' else f'refused {outcome.answer[1]}'
+            self.searches[kind] = self.searches.get(kind, 0) + 1
+
+
+class Call:
+    """A call of both searches.
+
+    `lengths` are those of the lent tables, N each if not given. `changes` are made to the image first and stay.
+    `wanted` is stated by hand: answer (of both searches, or how it begins), times, predecessors, list, plain_list.
+    """
+
+    def __init__(self, source, lengths=None, changes=(), **wanted):
+        self.source, self.lengths, self.changes, self.wanted = source, lengths, changes, wanted
+
+    def compare(self, label, outcomes):
+        of_plain, of_df = outcomes
+        found = {'times': of_df.times, 'predecessors': of_df.predecessors, 'list': of_df.list,
+                 'plain_list': of_plain.list}
+        for name, value in self.wanted.items():
+            if name == 'answer':
+                for outcome in outcomes:
+                    words = answer_words(outcome.answer)
+                    assert words == value or words.startswith(value + ','), (label, self.source, words, value)
+            else:
+                numbers = [int(word) for word in value.split()]
+                assert found[name] == numbers, (label, self.source, name, found[name], numbers)
+
+
+def from_all(n, lengths=None):
+    return [Call(source, lengths) for source in range(n)]
+
+
+# "S is the 261-byte map `01 00 01 00 00` and a page `01 00 00 00` then zeros."
+S = bytes.fromhex('01 00 01 00 00  01 00 00 00') + bytes(252)
+
+# "M7: stations 0 to 3 on page 0, 4 to 6 on page 1"
+M7 = drawn([0, 0, 0, 0, 1, 1, 1], '0-1/4, 0-4/2, 1-2/3, 2-3/3, 3-5/3, 4-2/1, 4-5/6, 5-6/1')
+M7_PAGES = [page_begins(M7, 0), page_begins(M7, 1)]
+
+# "N 4, one page, from 0: 0-1/6, 0-2/5, 1-3/4, 2-3/5"
+C6 = drawn([0] * 4, '0-1/6, 0-2/5, 1-3/4, 2-3/5')
+
+# "N 2, P 2, station i on page i, no moves, page 1 begins `07`"
+C8 = image([0, 1], page(station(0)), page(b'\x07'))
+
+
+def course_cases(cases):
+    """C1 to C9."""
+    cases.add('C1 to C4: M7', M7, [
+        Call(0, answer='accepted', times='0 4 3 6 2 8 9', predecessors='65534 0 4 2 0 4 5',
+             list='0 1 0', plain_list='0 1 0 0 0 1 1'),
+        Call(6, answer='accepted, count 1, reached 1', list='1', plain_list='1'),
+        *from_all(7, (9, 8, 10, 12)),
+        Call(0, (2100,) * 4)])
+    cases.add('C5: S', S, [
+        Call(0, answer='accepted, count 1, reached 1', times='0', list='0'), Call(0, (4, 3, 2, 5))])
+    cases.add('C6', C6, [
+        Call(0, answer='accepted', times='0 6 5 10', predecessors='65534 0 0 1', list='0', plain_list='0 0 0 0'),
+        *from_all(4, (5, 6, 7, 8))])
+    bad = damaged(M7, (M7_PAGES[1], 7))
+    cases.add('C7: M7, page 1 begins 07', bad, [
+        Call(0, answer='refused 8, page 1, offset 0, count 2', list='0 1', plain_list='0 1'),
+        *from_all(7, (8, 9, 10, 11))])
+    cases.add('C8 and C9', C8, [
+        Call(0, answer='accepted, count 1, reached 1', list='0', plain_list='0'),
+        Call(1, answer='refused 8, page 1, offset 0, count 1', list='1', plain_list='1'),
+        Call(0, (5, 4, 3, 6)), Call(1, (5, 4, 3, 6))])
+
+
+def lent(n):
+    """Table lengths about n: exactly n, one short in each table and in all, longer, and none at all."""
+    rows = [(n,) * 4]
+    rows += [tuple(n - (k == short) for k in range(4)) for short in range(4)]
+    rows += [tuple(n + 5 * (k != short) - (k == short) for k in range(4)) for short in range(4)]
+    return rows + [(n - 1,) * 4, (n + 1, n + 2, n + 3, n + 4), (0,) * 4]
+
+
+def refusal_cases(cases):
+    """Rows 1 to 7, in order, and that a lower row is answered before a higher one."""
+    def row(label, data, answer, source=0, lengths=(3, 4, 5, 6)):
+        cases.add(label, data, [Call(source, lengths, answer=answer), Call(source, (0,) * 4, answer=answer),
+                                Call(65535, lengths, answer=answer)])
+
+    row('1: an empty image', b'', 'refused 1')
+    row('1: 3 bytes, 01 00 01', b'\x01\x00\x01', 'refused 1')
+    row('2: 00 00 01 00', b'\x00\x00\x01\x00', 'refused 2')
+    row('2: N 0 in an image of the right length', image([], page()), 'refused 2')
+    row('2: N 2,049', image([0] * 2049, page()), 'refused 2', lengths=(2100,) * 4)
+    row('2: N 2,049 and P 241', u16(2049) + u16(241), 'refused 2')
+    row('3: 01 00 00 00', b'\x01\x00\x00\x00', 'refused 3')
+    row('3: P 0 in an image of the right length', image([0]), 'refused 3')
+    row('3: P 241', u16(1) + u16(241) + b'\x00', 'refused 3')
+    row('3: P 241 in an image of the right length', image([240], *[page()] * 240, page(station(0))), 'refused 3')
+    row('3: P 65,535', u16(1) + u16(65535), 'refused 3')
+    row('4: S less its last byte', S[:-1], 'refused 4')
+    row('4: S and one byte more', S + b'\x00', 'refused 4')
+    row('4: the heading of S alone', S[:4], 'refused 4')
+    row('4: S less its last byte, directory 01', damaged(S, (4, 1))[:-1], 'refused 4')
+    row('5: S, directory 01', damaged(S, (4, 1)), 'refused 5, station 0')
+    row('5: M7, stations 3 and 5 on no page', damaged(M7, (7, 2), (9, 255)), 'refused 5, station 3')
+    row('5: M7, the last station on no page, page 0 begins 07', damaged(M7, (10, 2), (11, 7)), 'refused 5, station 6')
+
+    six = [Call(source, lengths, answer='refused 6')
+           for source in (1, 2, 256, 32768, 65534, 65535) for lengths in ((1,) * 4, (3, 4, 5, 6), (0,) * 4)]
+    cases.add('6: S, source 1 and above', S, six)
+    cases.add('6: M7, source 6, then 7 and above', M7, [
+        Call(6, answer='accepted'), Call(7, answer='refused 6'), Call(8, (7, 8, 9, 10), answer='refused 6'),
+        Call(256, answer='refused 6'), Call(65535, answer='refused 6'), Call(7, (0,) * 4, answer='refused 6')])
+
+    def seven(n, otherwise):
+        return [Call(0, lengths, answer='refused 7' if min(lengths) < n else otherwise) for lengths in lent(n)]
+
+    cases.add('7: S, a list of 0 entries', S, [Call(0, (1, 1, 1, 0), answer='refused 7'), *seven(1, 'accepted')])
+    cases.add('7: M7, tables of about 7 entries', M7, seven(7, 'accepted'))
+    cases.add('7: M7 with two bad pages, tables of about 7 entries', damaged(M7, *[(at, 7) for at in M7_PAGES]),
+              seven(7, 'refused 8, page 0, offset 0, count 1'))
+
+
+def faults():
+    """Bad pages for page 1 of a map: label, number and offset, the page's stations, the page."""
+    many = [1] + list(range(3, 88))
+    full = page(station(1), b''.join(move(target, 1) for target in range(2, 52)), station(52))
+    return [
+        ('8: page 07', (8, 0), [1], page(b'\x07')),
+        ('8: code 03 behind a station', (8, 3), [1], page(station(1), b'\x03')),
+        ('9: 86 stations on one page', (9, 255), many, b''.join(map(station, many))[:PAGE]),
+        ('9: no 00', (9, 256), [1, 52], full),
+        ('10: page all zero', (10, 0), [1], page()),
+        ('10: not the next station', (10, 0), [1], page(station(2))),
+        ('10: one missing at 00', (10, 3), [1, 3], page(station(1))),
+        ('11: page 02 00 00 01 00', (11, 0), [1], page(bytes.fromhex('02 00 00 01 00'))),
+        ('12: target N', (12, 3), [1], page(station(1), move(3, 1))),
+        ('12: own station', (12, 3), [1], page(station(1), move(1, 1))),
+        ('12: not rising', (12, 8), [1], page(station(1), move(2, 1), move(2, 1))),
+        ('13: time 0', (13, 3), [1], page(station(1), move(2, 0))),
+        ('14: byte not 00 after the end', (14, 3), [1], page(station(1), b'\x00\x05')),
+        ('14: the last byte of the page', (14, 3), [1], page(station(1), bytes(252), b'\x01'))]
+
+
+def page_refusal_cases(cases):
+    """Rows 8 to 14 on a page that is reached, and on one that is not.
+
+    Station 0 is on page 0, station 1 on page 1 with the fault, station 2 on page 2. The moves are 0-1/1 and 2-0/1, or
+    0-2/1 and 2-0/1 where the fault is not to be reached.
+    """
+    for label, (number, offset), own, bad in faults():
+        n = max(own + [2]) + 1
+        directory = [0] + [1 if s in own else 2 for s in range(1, n)]
+        others = [s for s in range(3, n) if s not in own]
+        last = page(station(2), move(0, 1), *map(station, others))
+        refused = f'refused {number}, page 1, offset {offset}'
+        roomy = (n + 1, n + 2, n, n + 3)
+        cases.add(label + ', reached', image(directory, page(station(0), move(1, 1)), bad, last), [
+            Call(0, answer=refused + ', count 2', list='0 1', plain_list='0 1'),
+            Call(1, roomy, answer=refused + ', count 1', list='1', plain_list='1'),
+            Call(2, roomy, answer=refused + ', count 3', list='2 0 1', plain_list='2 0 1')])
+        cases.add(label + ', not reached', image(directory, page(station(0), move(2, 1)), bad, last), [
+            Call(0, answer='accepted, count 2, reached 2', list='0 2', plain_list='0 2'),
+            Call(2, roomy, answer='accepted, count 2, reached 2', list='2 0', plain_list='2 0')])
+
+    # 2 and 3 both have time 5; then the move 0-3 takes 4
+    two = drawn([0, 0, 1, 2, 3], '0-2/5 0-3/5 0-4/5 0-1/1 1-3/4 4-0/1')
+    cases.add('which of two bad pages is refused: least time, then lowest number', two, [
+        Call(0, changes=[(page_begins(two, p), 9) for p in (1, 2)], answer='refused 8, page 1, offset 0',
+             list='0 1', plain_list='0 0 1'),
+        Call(0, changes=[(page_begins(two, 0) + 16, 4)], answer='refused 8, page 2, offset 0', list='0 2'),
+        Call(4, (6, 7, 8, 9), list='3 0 2')])
+
+
+def tie_cases(cases):
+    """Equal sums and ties of every kind."""
+    # an equal sum that made station 2 not fresh would give the list 1 0 1
+    cases.add('an equal sum leaves a station fresh', drawn([0, 1, 1], '1-0/1, 1-2/2, 0-2/1'), [
+        Call(1, answer='accepted', times='1 0 2', predecessors='1 65534 0', list='1 0',
+             plain_list='1 0 1'),
+        *from_all(3, (4, 5, 6, 7))])
+    cases.add('an equal sum from a higher station keeps the predecessor', drawn(
+        [0, 0, 1, 1], '0-1/1, 0-2/1, 1-3/1, 2-3/1'), [
+            Call(0, times='0 1 1 2', predecessors='65534 0 0 1'), *from_all(4, (4, 5, 6, 7))])
+    cases.add('equal sums from the highest station on down', drawn(
+        [0, 1, 2, 0, 1, 2, 0], '6-5/1 6-4/2 6-3/3 6-2/4 6-1/5 5-0/9 4-0/8 3-0/7 2-0/6 1-0/5'), [
+            Call(6, times='10 5 4 3 2 1 0', predecessors='1 6 6 6 6 6 65534'), *from_all(6, (9, 9, 9, 9))])
+    cases.add('a settled station gets a lower predecessor by an equal sum only from an earlier time',
+              drawn([0, 1, 0, 1], '3-0/2 3-1/1 1-0/1 3-2/1 2-0/1 0-1/1'),
+              [Call(3, times='2 1 1 0', predecessors='1 3 3 65534'), *from_all(3)])
+    cases.add('all stations at the same time', spelled(
+        [s % 3 for s in range(12)], {11: [(target, 5) for target in range(11)]}, 3), [
+            Call(11, predecessors='11 11 11 11 11 11 11 11 11 11 11 65534'), Call(0)])
+    cases.add('all moves between 8 stations, each of time 1', spelled(
+        [0, 0, 0, 0, 1, 1, 1, 1], {s: [(t, 1) for t in range(8) if t != s] for s in range(8)}, 2),
+        from_all(8, (8, 9, 10, 11)))
+    grid = {}
+    for s in range(36):
+        x, y = s % 6, s // 6
+        near = [(x + 1, y), (x - 1, y), (x, y + 1), (x, y - 1)]
+        grid[s] = [(6 * b + a, 2) for a, b in near if 0 <= a < 6 and 0 <= b < 6]
+    quarters = [s % 6 // 3 + 2 * (s // 18) for s in range(36)]
+    cases.add('a grid of 6 by 6 in four pages, all times equal', spelled(quarters, grid, 4),
+              [Call(s, (36, 37, 38, 39)) for s in (0, 14, 21, 35)])
+    cases.add('the same grid, a page for each row', spelled([s // 6 for s in range(36)], grid, 6), [Call(0), Call(20)])
+    cases.add('the same grid, a page for each column', spelled([s % 6 for s in range(36)], grid, 6),
+              [Call(0), Call(20)])
+
+
+def page_again_cases(cases):
+    """Pages that are entered again and again, and lowered stations."""
+    zigzag = {s: [(s + 1, 1)] for s in range(39)}
+    cases.add('a chain that changes page at each move', spelled([s % 2 for s in range(40)], zigzag, 2), [
+        Call(0, list=' '.join(str(s % 2) for s in range(40))), Call(39, list='1'), Call(17, (41, 42, 43, 44))])
+    back = {s: [(s - 1, 3)] for s in range(1, 40)}
+    cases.add('a chain that falls, on 8 pages in turn', spelled([s % 8 for s in range(40)], back, 8), [
+        Call(39), Call(0), Call(8)])
+    cases.add('a chain page by page', spelled([s // 8 for s in range(40)], zigzag, 5), [
+        Call(0, list='0 1 2 3 4'), Call(39), Call(12)])
+    cases.add('a station lowered by one page after another', drawn(
+        [0, 1, 2, 3, 4, 0, 0], '0-1/1 0-2/2 0-3/3 0-4/4 0-5/50 1-5/40 2-5/30 3-5/20 4-5/10 5-6/1'), [
+            Call(0, times='0 1 2 3 4 14 15', predecessors='65534 0 0 0 0 4 5', list='0 1 2 3 4 0'),
+            *from_all(7, (7, 8, 9, 10))])
+    cases.add('a page worked through at once, and each station lowered later', drawn(
+        [0, 0, 0, 0, 0, 1, 1, 1, 1], '0-1/10 1-2/10 2-3/10 3-4/10 0-5/1 5-1/1 0-6/3 6-2/2 0-7/5 7-3/2 0-8/7 8-4/2'), [
+            Call(0, times='0 2 5 7 9 1 3 5 7'), *from_all(9, (9, 9, 9, 9))])
+    cases.add('lowered by its own page while that is worked through', drawn(
+        [0, 0, 0, 0], '0-3/9 0-1/1 1-3/7 1-2/1 2-3/5'), [Call(0, times='0 1 2 7', list='0'), Call(1), Call(2)])
+    both = {}
+    for s in range(18):
+        both[s] = [(18 + s, 1), ((s + 1) % 18, 4)]
+        both[18 + s] = [((s + 1) % 18, 1), (18 + (s + 1) % 18, 4)]
+    cases.add('two rings on two pages, the short way across', spelled([s // 18 for s in range(36)], both, 2),
+              [Call(0), Call(25, (36, 50, 60, 70))])
+    cases.add('stations that no walk reaches', drawn([0, 1, 2, 0, 1, 2], '0-1/7 1-0/7 3-4/1 4-5/1 5-3/1 5-0/2', 4), [
+        Call(0, answer='accepted, count 2, reached 2', times='0 7 4294967295 4294967295 4294967295 4294967295',
+             predecessors='65534 0 65535 65535 65535 65535'), *from_all(6, (7, 7, 7, 7))])
+    cases.add('no moves at all', drawn([0, 1, 2, 0, 1, 2], ''), from_all(6))
+
+
+def large_cases(cases):
+    """Maps of 2,048 stations, on 240 pages as a rule."""
+    n = 2048
+    roomy = (2100, 2090, 2080, 2070)
+    chain = {s: [(s + 1, 65535)] for s in range(n - 1)}
+    turn = [s % 240 for s in range(n)]
+    cases.add('the longest chain: N 2,048 on 240 pages, times 65,535', spelled(turn, chain, 240), [
+        Call(0, roomy, answer='accepted, count 2048, reached 2048'),
+        Call(2047, answer='accepted, count 1, reached 1'),
+        Call(2048, roomy, answer='refused 6'),
+        Call(0, (2048, 2048, 2048, 2047), answer='refused 7'),
+        Call(1000, answer='accepted, count 1048, reached 1048')])
+    moves = dealt_moves(turn, random.Random(2048))
+    for label, time in [('small times', lambda u, v: (u * 31 + v * 977) % 3 + 1),
+                        ('large times', lambda u, v: 65535 - (u * 31 + v * 977) % 5000),
+                        ('equal times', lambda u, v: 65535)]:
+        data = spelled(turn, {u: [(v, time(u, v)) for v in targets] for u, targets in moves.items()}, 240)
+        assert len(data) == 63492
+        calls = [Call(0, roomy), Call(2047)]
+        if label == 'small times':
+            calls += [Call(1234, roomy, changes=[(page_begins(data, 239) + 255, 1)]),
+                      Call(1234, changes=[(page_begins(data, 239) + 255, 0), (page_begins(data, 17), 3)])]
+        cases.add('a full map: N 2,048 on 240 pages, ' + label, data, calls)
+    cases.add('a chain page by page: N 2,048 on 67 pages', spelled(
+        [s // 31 for s in range(n)], {s: [(s + 1, 1)] for s in range(n - 1)}, 67), [
+            Call(0, roomy, answer='accepted', list=' '.join(map(str, range(67)))), Call(1000)])
+    cases.add('the same chain back, from the last station', spelled(
+        [s // 31 for s in range(n)], {s: [(s - 1, 255)] for s in range(1, n)}, 67), [Call(2047), Call(31, roomy)])
+
+
+def dealt_moves(directory, rng):
+    """Targets for the stations of a map, five each as far as the pages hold them."""
+    room = {p: PAGE - 1 - 3 * directory.count(p) for p in set(directory)}
+    moves = {}
+    for s, p in enumerate(directory):
+        count = min(5, room[p] // 5)
+        room[p] -= 5 * count
+        moves[s] = sorted(rng.sample([t for t in range(len(directory)) if t != s], count))
+    return moves
+
+
+def random_directory(rng, n, pages):
+    """Pages in turn, one after the other, or by chance."""
+    kind = rng.randrange(3)
+    return [s % pages if kind == 0 else s * pages // n if kind == 1 else rng.randrange(pages) for s in range(n)]
+
+
+def random_times(rng, n):
+    """A function that gives a move from u to v its time.
+
+    Mostly each station has a height, and a move takes the difference of the heights, so that all ways up take equal
+    sums, or a little more, so that times are lowered later.
+    """
+    if rng.random() < 0.3:
+        times = rng.choice([[1], [1, 2], [5, 10, 15], [1, 65535], range(1, 10), range(1, 65536)])
+        return lambda u, v: rng.choice(times)
+    height = [rng.randint(0, rng.choice([3, 10, 30])) for _ in range(n)]
+    more = rng.choice([[0], [0, 0, 0, 1], [0, 0, 1, 2, 5], [0, 3, 10, 20]])
+    return lambda u, v: max(1, height[v] - height[u]) + rng.choice(more)
+
+
+def random_map(rng):
+    """A good map of 1 to 40 stations on 1 to 8 pages, and a station that reaches many others."""
+    n, pages = rng.randint(1, rng.choice([4, 10, 20, 40])), rng.choice([1, 2, 2, 2, 3, 3, 4, 4, 5, 6, 8])
+    directory = random_directory(rng, n, pages)
+    time = random_times(rng, n)
+    room = {p: (PAGE - 1 - 3 * directory.count(p)) // 5 for p in range(pages)}
+    order = rng.sample(range(n), n)
+    wanted = [(order[rng.randrange(k)], order[k]) for k in range(1, n) if rng.random() < 0.95]
+    wanted += [(rng.randrange(n), rng.randrange(n)) for _ in range(rng.choice([0, n, 2 * n, 4 * n]))]
+    moves = {}
+    for u, v in wanted:
+        if u != v and v not in moves.setdefault(u, {}) and room[directory[u]] > 0:
+            room[directory[u]] -= 1
+            moves[u][v] = time(u, v)
+    return spelled(directory, {u: list(leaving.items()) for u, leaving in moves.items()}, pages), order[0]
+
+
+def random_change(rng, data):
+    """An offset and another value of its byte: mostly a byte in use, mostly a value near those in use, seldom of the
+    heading or directory."""
+    n = int.from_bytes(data[:2], 'little')
+    used = [at for at in range(4 + n, len(data)) if any(data[at:at + 4])] or [len(data) - 1]
+    at = rng.choice(used) if rng.random() < 0.93 else rng.randrange(len(data))
+    near = [0, 1, 2, 3, (data[at] + 1) % 256, (data[at] - 1) % 256]
+    return at, rng.choice(near) if rng.random() < 0.85 else rng.randrange(256)
+
+
+def random_cases(cases):
+    """Some 150 good maps, each then damaged at one to three bytes."""
+    rng = random.Random(7763)
+    for number in range(1, 156):
+        data, first = random_map(rng)
+        n = int.from_bytes(data[:2], 'little')
+        roomy = tuple(n + rng.randint(0, 3) for _ in range(4))
+        changes = dict(random_change(rng, data) for _ in range(rng.randint(1, 3)))
+        cases.add(f'random map {number}', data, [
+            Call(first, answer='accepted'), Call(rng.randrange(n), roomy, answer='accepted'),
+            Call(first, roomy, changes=list(changes.items()))])
+
+
+def main():
+    cases = Cases()
+    for part in (course_cases, refusal_cases, page_refusal_cases, tie_cases, page_again_cases, large_cases,
+                 random_cases):
+        part(cases)
+    stream = b''.join(cases.stream)
+    text = ''.join(line + '\n' for line in cases.lines).encode('ascii')
+    kinds = sorted(cases.searches, key=lambda kind: (len(kind), kind))
+    print(f'{cases.maps} maps, {cases.calls} calls; stdin {len(stream)} bytes, stdout {len(text)} bytes')
+    print('answers: ' + ', '.join(f'{kind} {cases.searches[kind]} times' for kind in kinds))
+    files = [(FOLDER / 'stdin', stream), (FOLDER / 'stdout', text)]
+    if '--check' in sys.argv[1:]:
+        differing = [path.name for path, made in files if path.read_bytes() != made]
+        print('differs: ' + ', '.join(differing) if differing else 'as written')
+        sys.exit(1 if differing else 0)
+    for path, made in files:
+        path.write_bytes(made)
+
+
+if __name__ == '__main__':
+    main()
