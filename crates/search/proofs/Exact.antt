@@ -16,7 +16,7 @@ use Rattle.net.proofs.Laws.{plain-one-comparison, df-one-comparison}
 use Rattle.page.specs.Image.{directoryOf}
 use Rattle.queue.specs.Queue.{nobody, keyOf, Tree, Put, Queue}
 use Rattle.queue.proofs.Queue.{empty-tree, queue-start}
-use Rattle.relax.specs.Tables.{noTime, Tables, tables, stateOf}
+use Rattle.relax.specs.Tables.{noTime, Tables, stateOf}
 use Rattle.search.specs.declared.Step.{Step}
 use Rattle.search.specs.declared.Step.the-variants.{On, Stopped}
 use Rattle.search.specs.Map.{mapFrame, mapPage}

@@ -1,3 +1,4 @@
+-- The laws behind the functions' proofs, from the pages that a search notes to the demands on what it hands back.
 pub mod Noting
 pub mod Visiting
 pub mod Running

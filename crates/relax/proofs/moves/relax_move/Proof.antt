@@ -6,6 +6,14 @@ use borrow.Author.Needs.{needs}
 use Rattle.relax.proofs.moves.relax_move.Statement.{statement}
 use Rattle.relax.proofs.moves.relax_move.Tie as tie
 
+-- The place where both times have been read.
+module _ (timed : tie.After-time-at2) where
+  abbrev from-timed : tie.After-time-at
+  from-timed = timed .before .before .before
+
+  abbrev entry : tie.Start
+  entry = from-timed .before .before .before .before .before .before .before
+
 cast-v : tie.Need-cast-v
 cast-v c = search needs
 
@@ -48,15 +56,13 @@ same-length-4 c = search needs
 returns : tie.Need-returns
 returns c =
     let after-lower = c .before .before .before .before .before .before .before .before in
-    let after-if1 = after-lower .before .before .before .before .before in
-    let after-second-time-at = after-if1 .before in
-    let after-time-at = after-second-time-at .before .before .before in
-    let entry = after-time-at .before .before .before .before .before .before .before in
-    let a = entry .args in
+    let below = after-lower .before .before .before .before .before in
+    let timed = below .before in
+    let a = entry timed .args in
     let done = after-lower .lower .ensures in (
       relax-lowers (now (a .times)) (now (a .preds)) (now (a .marks)) (a .u) (a .step) _ _
-          (after-time-at .time-at .ensures) (after-second-time-at .time-at2 .ensures) _ _ _ (after-if1 .if1 .taken)
-          (done .0) (done .1 .0) (done .1 .1 .0),
+          (from-timed timed .time-at .ensures) (timed .time-at2 .ensures) _ _ _ (below .if1 .taken) (done .0)
+          (done .1 .0) (done .1 .1 .0),
       done .1 .1 .1,
     )
 
@@ -74,17 +80,15 @@ same-length-6 c = search needs
 
 returns-2 : tie.Need-returns-2
 returns-2 c =
-    let after-if3 = c .before .before .before .before in
-    let after-pred-at = after-if3 .before in
-    let after-if2 = after-pred-at .before .before in
-    let after-second-time-at = after-if2 .before .before in
-    let after-time-at = after-second-time-at .before .before .before in
-    let entry = after-time-at .before .before .before .before .before .before .before in
-    let a = entry .args in (
+    let lower-pred = c .before .before .before .before in
+    let pred-read = lower-pred .before in
+    let equal = pred-read .before .before in
+    let timed = equal .before .before in
+    let a = entry timed .args in (
       relax-ties (now (a .times)) (now (a .preds)) (now (a .marks)) (a .u) (a .step) _ _
-          (after-time-at .time-at .ensures) (after-second-time-at .time-at2 .ensures) _ _ (after-if2 .if2 .taken)
-          (after-pred-at .pred-at .ensures) (after-if3 .if3 .taken) (c .before .before .set-pred .ensures),
-      entry .pre .1,
+          (from-timed timed .time-at .ensures) (timed .time-at2 .ensures) _ _ (equal .if2 .taken)
+          (pred-read .pred-at .ensures) (lower-pred .if3 .taken) (c .before .before .set-pred .ensures),
+      entry timed .pre .1,
     )
 
 same-length-7 : tie.Need-same-length-7
@@ -95,14 +99,13 @@ same-length-8 c = search needs
 
 returns-3 : tie.Need-returns-3
 returns-3 c =
-    let after-second-time-at = c .before .before .before .before .before in
-    let after-time-at = after-second-time-at .before .before .before in
-    let entry = after-time-at .before .before .before .before .before .before .before in
-    let a = entry .args in (
+    let equal = c .before .before .before in
+    let timed = equal .before .before in
+    let a = entry timed .args in (
       relax-not-below (now (a .times)) (now (a .preds)) (now (a .marks)) (a .u) (a .step) _ _
-          (after-time-at .time-at .ensures) (after-second-time-at .time-at2 .ensures) _
-          (c .before .before .before .if2 .taken) (c .before .pred-at .ensures) (c .if3 .left),
-      entry .pre .1,
+          (from-timed timed .time-at .ensures) (timed .time-at2 .ensures) _ (equal .if2 .taken)
+          (c .before .pred-at .ensures) (c .if3 .left),
+      entry timed .pre .1,
     )
 
 same-length-9 : tie.Need-same-length-9
@@ -110,13 +113,11 @@ same-length-9 c = search needs
 
 returns-4 : tie.Need-returns-4
 returns-4 c =
-    let after-time-at = c .before .before .before .before .before in
-    let entry = after-time-at .before .before .before .before .before .before .before in
-    let a = entry .args in (
+    let timed = c .before .before in
+    let a = entry timed .args in (
       relax-keeps (now (a .times)) (now (a .preds)) (now (a .marks)) (a .u) (a .step) _ _
-          (after-time-at .time-at .ensures) (c .before .before .time-at2 .ensures) (c .before .if1 .left)
-          (c .if2 .left),
-      entry .pre .1,
+          (from-timed timed .time-at .ensures) (timed .time-at2 .ensures) (c .before .if1 .left) (c .if2 .left),
+      entry timed .pre .1,
     )
 
 pub relax-move-spec : {M : Type 1} → statement M

@@ -1,16 +1,14 @@
 -- The loop's invariant: relaxing the moves that are left, from `at` on, takes the tables where relaxing all moves
 -- takes those at the start (`Walking`). Each move read is one step of that row; where no move is left, the tables are
 -- the result.
-use mathlib.Core.Path.{refl}
-use Rattle.relax.proofs.Relaxing.{steps-onward}
-use mathlib.Core.Path.{_≡_, _∙_}
+use mathlib.Core.Path.{_≡_, refl, _∙_}
 use Prim.Native.Nat.{_-_}
 use native.Mathlib.Omega.{arith}
 use denote.Ref.{now}
 use lib.ListN.{length}
 use borrow.Author.Needs.{needs}
 use Rattle.relax.specs.Tables.{tables}
-use Rattle.relax.proofs.Relaxing.{Walking, walking-start, step-inside, walking-on, walking-end}
+use Rattle.relax.proofs.Relaxing.{Walking, walking-start, step-inside, steps-onward, walking-on, walking-end}
 use Rattle.relax.proofs.moves.relax_moves.Statement.{statement}
 use Rattle.relax.proofs.moves.relax_moves.Tie as tie
 
@@ -52,9 +50,8 @@ relax-move-requires c κs =
 
 loop-less : tie.Need-loop-less Inv-loop μ-loop
 loop-less c =
-    let after-step =
-    c .before .before .before .before .before .before .before .before .before .before .before .before
-    .before .before in
+    let after-relax-move = c .before .before .before .before .before .before .before .before in
+    let after-step = after-relax-move .before .before .before .before .before .before in
     let after-next-move = after-step .before .before in
     let at-loop = after-next-move .before in
     let l = at-loop .loop in

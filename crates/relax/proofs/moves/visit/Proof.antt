@@ -1,10 +1,10 @@
--- The mark written is that of a fresh station, and the queue holds no less for it; relaxing the moves then starts
--- from the tables with that mark.
-use mathlib.Core.Path.{ap, _∙_}
-use mathlib.Core.List.{map}
-use Prim.Native.Nat.{_+_, _%_}
+-- The mark written is that of a fresh station, and the queue does not look at freshness; relaxing the moves then
+-- starts from the tables with that mark.
+use mathlib.Core.Path.{_≡_, ap, _∙_}
+use mathlib.Core.List.{List, map}
+use Prim.Native.Nat.{ℕ, _+_, _%_}
 use lib.Dec.{ltb}
-use lib.ListN.{set}
+use lib.ListN.{getD, set}
 use denote.Ref.{now}
 use Rattle.net.specs.Search.{relaxAll}
 use Rattle.page.specs.Walk.{movesAt}
@@ -13,6 +13,21 @@ use Rattle.relax.proofs.Relaxing.{fresh-queue}
 use borrow.Author.Needs.{needs}
 use Rattle.relax.proofs.moves.visit.Statement.{statement}
 use Rattle.relax.proofs.moves.visit.Tie as tie
+
+-- The place where the mark has been written: the marks are those with the station fresh.
+module _ (marked : tie.After-set-mark) where
+  abbrev mark-read : tie.After-mark-at
+  mark-read = marked .before .before
+
+  abbrev entry : tie.Start
+  entry = mark-read .before .before .before .before .before .before .before
+
+  abbrev marks : List ℕ
+  marks = now (entry .args .marks)
+
+  fresh-marks : marked .set-mark .last .0 ≡ set marks (entry .args .u) (getD marks (entry .args .u) 0 % 2 + 2)
+  fresh-marks =
+      marked .set-mark .ensures ∙ ap (λ m. set marks (entry .args .u) (m % 2 + 2)) (mark-read .mark-at .ensures)
 
 mark-at-requires : tie.Need-mark-at-requires
 mark-at-requires c κs = search needs
@@ -25,16 +40,11 @@ set-mark-requires c κs = search needs
 
 relax-moves-requires : tie.Need-relax-moves-requires
 relax-moves-requires c κs =
-    let after-set-mark = c .before .before .before .before .before .before in
-    let after-mark-at = after-set-mark .before .before in
-    let entry = after-mark-at .before .before .before .before .before .before .before in
-    let a = entry .args in
-    let e =
-    after-set-mark .set-mark .ensures ∙
-    ap (λ m. set (now (a .marks)) (a .u) (m % 2 + 2)) (after-mark-at .mark-at .ensures) in (
-      entry .pre .1 .0,
-      fresh-queue (now (a .tree)) (now (a .times)) (now (a .marks)) (a .u) _ (entry .pre .1 .1) (entry .pre .0)
-          e,
+    let marked = c .before .before .before .before .before .before in
+    let a = entry marked .args in
+    let pre = entry marked .pre in (
+      pre .1 .0,
+      fresh-queue (now (a .tree)) (now (a .times)) (marks marked) (a .u) _ (pre .1 .1) (pre .0) (fresh-marks marked),
     )
 
 same-length : tie.Need-same-length
@@ -52,21 +62,16 @@ same-length-4 c = search needs
 returns : tie.Need-returns
 returns c =
     let after-relax-moves = c .before .before .before .before .before .before .before .before in
-    let after-set-mark = after-relax-moves .before .before .before .before .before .before .before in
-    let after-mark-at = after-set-mark .before .before in
-    let entry = after-mark-at .before .before .before .before .before .before .before in
-    let a = entry .args in
-    let e =
-    after-set-mark .set-mark .ensures ∙
-    ap (λ m. set (now (a .marks)) (a .u) (m % 2 + 2)) (after-mark-at .mark-at .ensures) in
+    let marked = after-relax-moves .before .before .before .before .before .before .before in
+    let a = entry marked .args in
     let moves = map netMove (movesAt (now (a .page)) (a .start)) in
     let done = after-relax-moves .relax-moves .ensures in (
       λ directory pages halt.
           done .0 directory pages halt ∙
           ap
           (λ k.
-          relaxAll (frame directory) ltb (a .u) moves
-          (stateOf (tables (now (a .times)) (now (a .preds)) k) pages halt)) e,
+          relaxAll (frame directory) ltb (a .u) moves (stateOf (tables (now (a .times)) (now (a .preds)) k) pages halt))
+          (fresh-marks marked),
       done .1,
     )
 

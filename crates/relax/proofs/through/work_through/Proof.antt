@@ -1,7 +1,6 @@
 -- The loop's invariant: the turns that are left take the tables where all turns take those at the start (`Working`).
 -- A turn that finds a station is one step of the definition; one that finds nobody ends it early, as further turns
 -- change nothing.
-use Rattle.relax.proofs.Working.{working-inside}
 use mathlib.Core.Path.{_≡_, refl, _∙_}
 use Prim.Native.Nat.{_-_}
 use native.Mathlib.Omega.{arith}
@@ -9,7 +8,8 @@ use denote.Ref.{now}
 use lib.ListN.{length}
 use borrow.Author.Needs.{needs}
 use Rattle.relax.specs.Tables.{tables}
-use Rattle.relax.proofs.Working.{Working, working-start, working-stop, working-station, working-on, working-end}
+use Rattle.relax.proofs.Working.{Working, working-start, working-stop, working-station, working-inside}
+use Rattle.relax.proofs.Working.{working-on, working-end}
 use Rattle.relax.proofs.through.work_through.Statement.{statement}
 use Rattle.relax.proofs.through.work_through.Tie as tie
 

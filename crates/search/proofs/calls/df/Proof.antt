@@ -30,13 +30,13 @@ same-length-4 c = search needs
 returns : tie.Need-returns
 returns c =
     let after-search = c .before .before .before .before .before .before .before .before in
-    let after-shared-slice-known =
+    let bytes-known =
     after-search .before .before .before .before .before .before .before .before .before in
-    let entry = after-shared-slice-known .before in
+    let entry = bytes-known .before in
     let a = entry .args in
     let image = now (a .image) in
     let source = a .source in
-    let bytes : Bytes image = λ i. omega (arith, after-shared-slice-known .shared-slice-known .given i) in
+    let bytes : Bytes image = λ i. omega (arith, bytes-known .shared-slice-known .given i) in
     let t = lent (now (a .times)) (now (a .preds)) (now (a .marks)) (now (a .list)) in
     let is = after-search .search .ensures in (
       is,

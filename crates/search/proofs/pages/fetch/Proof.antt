@@ -1,10 +1,12 @@
 -- A page known was noted when it was read, and is good. Any other is read now: found good, it is noted and known from
 -- now on; found bad, nothing changes.
-use mathlib.Core.Path.{sym, ap, _∙_, subst}
+use mathlib.Core.Path.{_≡_, sym, ap, _∙_, subst}
 use native.Mathlib.Omega.{arith}
+use Prim.Native.Nat.{_<_}
 use denote.Ref.{now}
 use lib.ListN.{set}
 use Rattle.page.specs.Bytes.{Bytes}
+use Rattle.page.specs.Check.{readingOf, verdictOf}
 use Rattle.page.specs.Walk.{Threaded, startsNoted}
 use Rattle.page.proofs.Judging.{never}
 use Rattle.search.specs.Steps.{Noted, Known}
@@ -12,6 +14,22 @@ use Rattle.search.proofs.Noting.{noted-verdict, noted-now, known-more, 
 use borrow.Author.Needs.{needs}
 use Rattle.search.proofs.pages.fetch.Statement.{statement}
 use Rattle.search.proofs.pages.fetch.Tie as tie
+
+-- The place where the page has been read: the verdict is that on the page of the image.
+module _ (read : tie.After-read-page) where
+  abbrev directory-found : tie.After-directory-of
+  directory-found = read .before
+
+  abbrev page-found : tie.After-page-of
+  page-found = directory-found .before
+
+  abbrev entry : tie.Start
+  entry = page-found .before .before .before .before .before .before .before .before
+
+  verdict : read .read-page .result ≡ verdictOf (readingOf (now (entry .args .image)) (entry .args .p))
+  verdict =
+      fetched (now (entry .args .image)) _ _ (entry .args .p) _ (directory-found .directory-of .ensures)
+      (page-found .page-of .ensures) (read .read-page .ensures)
 
 slice-read-if1 : tie.Need-slice-read-if1
 slice-read-if1 c = search needs
@@ -56,44 +74,33 @@ same-length-2 c = search needs
 
 returns-2 : tie.Need-returns-2
 returns-2 c =
-    let after-match = c .before .before .before .before in
-    let after-read-page = after-match .before .before in
-    let after-directory-of = after-read-page .before in
-    let after-page-of = after-directory-of .before in
-    let after-shared-slice-known = after-page-of .before .before .before .before .before .before .before in
-    let entry = after-shared-slice-known .before in
-    let a = entry .args in
+    let found-good = c .before .before .before .before in
+    let read = found-good .before .before in
+    let bytes-known = page-found read .before .before .before .before .before .before .before in
+    let a = entry read .args in
     let image = now (a .image) in
-    let bytes : Bytes image = λ i. omega (arith, after-shared-slice-known .shared-slice-known .given i) in
-    let is =
-    fetched image _ _ (a .p) _ (after-directory-of .directory-of .ensures) (after-page-of .page-of .ensures)
-    (after-read-page .read-page .ensures) in
-    let v = sym is ∙ after-match .enum-told .given .1 in
-    let k = entry .pre .1 .1 in
-    let few = entry .pre .0 in
+    let bytes : Bytes image = λ i. omega (arith, bytes-known .shared-slice-known .given i) in
+    let good = sym (verdict read) ∙ found-good .enum-told .given .1 in
+    let known = entry read .pre .1 .1 in
+    let few = entry read .pre .0 in
     let e =
     c .before .before .note-starts .ensures ∙
-    ap (λ page. startsNoted page (now (a .starts))) (after-page-of .page-of .ensures) in (
-      is,
+    ap (λ page. startsNoted page (now (a .starts))) (page-found read .page-of .ensures) in
+    let below : a .p < 256 = omega (arith, entry read .fits .p) in (
+      verdict read,
       (
         (λ q.
             subst (Noted image (a .p)) (sym e)
-            (noted-now image bytes few (a .p) (now (a .known)) (now (a .starts)) k v)),
+            (noted-now image bytes few (a .p) (now (a .known)) (now (a .starts)) known good)),
         subst (Known image (set (now (a .known)) (a .p) 1)) (sym e)
-            (known-more image bytes few (a .p) (now (a .known)) (now (a .starts)) k v
-            (omega (arith, entry .fits .p))),
+            (known-more image bytes few (a .p) (now (a .known)) (now (a .starts)) known good below),
       ),
     )
 
 returns-3 : tie.Need-returns-3
 returns-3 c =
-    let after-page-of = c .before .before .before .before in
-    let entry = after-page-of .before .before .before .before .before .before .before .before in
-    let a = entry .args in
-    let is =
-    fetched (now (a .image)) _ _ (a .p) _ (c .before .before .before .directory-of .ensures)
-    (after-page-of .page-of .ensures) (c .before .before .read-page .ensures) in
-    (is, ((λ q. never (let z = sym q ∙ c .enum-told2 .given .1 in cc)), entry .pre .1 .1))
+    let read = c .before .before in
+    (verdict read, ((λ q. never (let z = sym q ∙ c .enum-told2 .given .1 in cc)), entry read .pre .1 .1))
 
 pub fetch-spec : {M : Type 1} → statement M
 fetch-spec =

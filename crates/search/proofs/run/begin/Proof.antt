@@ -19,9 +19,9 @@ set-pred-requires c κs = search needs
 
 put-requires : tie.Need-put-requires
 put-requires c κs =
-    let entry =
-    c .before .before .before .before .before .before .before .before .before .before .before .before
-    .before .before .before .before .before .before .before .before .before .before .before in
+    let after-set-time = c .before .before .before .before .before .before .before in
+    let after-clear = after-set-time .before .before .before .before .before .before .before .before in
+    let entry = after-clear .before .before .before .before .before .before .before .before in
     let pre = entry .pre in
     let h = pre .0 in
     (omega (arith, h), empty-at (entry .args .source) _ (h .1) (h .0) _ (pre .1 .1))

@@ -54,9 +54,8 @@ slice-aggregate-begin c = search needs
 
 begin-requires : tie.Need-begin-requires
 begin-requires c κs =
-    let entry =
-    c .before .before .before .before .before .before .before .before .before .before .before .before
-    .before .before .before in
+    let after-thread = c .before .before .before .before .before .before in
+    let entry = after-thread .before .before .before .before .before .before .before .before .before in
     let pre = entry .pre in
     let f = formed (now (entry .args .image)) (pre .0) in
     ((pre .1 .0, omega (arith, pre .1 .1 .0, f .directory, f .stations-most)), ((pre .1 .1 .1, pre .1 .1 .2), refl))
@@ -119,14 +118,13 @@ returns c =
     let after-finish = finished c in
     let after-run = ran-before after-finish in
     let after-begin = begun-before after-run in
-    let after-shared-slice-known =
-    after-begin .before .before .before .before .before .before .before .before .before .before .before
-    .before .before .before .before in
-    let entry = after-shared-slice-known .before in
+    let after-thread = after-begin .before .before .before .before .before .before .before in
+    let bytes-known = after-thread .before .before .before .before .before .before .before .before in
+    let entry = bytes-known .before in
     let a = entry .args in
     let pre = entry .pre in
     let image = now (a .image) in
-    let bytes : Bytes image = λ i. omega (arith, after-shared-slice-known .shared-slice-known .given i) in
+    let bytes : Bytes image = λ i. omega (arith, bytes-known .shared-slice-known .given i) in
     let size = pre .1 .1 .0 in
     let begun = after-begin .begin in
     let first = tables (begun .last .1 .0) (begun .last .1 .1 .0) (begun .last .1 .1 .1 .0) in

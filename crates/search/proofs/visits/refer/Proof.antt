@@ -134,7 +134,8 @@ returns-2 c =
     let pre = entry fetched .pre in
     let on = on-page fetched in
     let verdict = sym (fetched .fetch .ensures .0) ∙ c .before .number .given .1 in (
-      referred-bad (now (a .image)) (a .df) (a .u) (a .count) _ _ _ _ (now (a .list)) _ on (pre .1 .1 .1 .0) refl verdict,
+      referred-bad (now (a .image)) (a .df) (a .u) (a .count) _ _ _ _ (now (a .list)) _ on (pre .1 .1 .1 .0) refl
+          verdict,
       ((refl, ap (set (now (a .list)) (a .count)) (sym on)), (fetched .fetch .ensures .1 .1, pre .1 .1 .1 .1 .1)),
     )
 

@@ -8,6 +8,17 @@ use borrow.Author.Needs.{needs}
 use Rattle.search.proofs.visits.step.Statement.{statement}
 use Rattle.search.proofs.visits.step.Tie as tie
 
+-- The place where the station has been settled; whether a page is needed was judged before, by its mark.
+module _ (settled : tie.After-settle) where
+  abbrev judged : tie.After-needs-no-page
+  judged = settled .before .before .before .before
+
+  abbrev mark-read : tie.After-mark-at
+  mark-read = judged .before
+
+  abbrev entry : tie.Start
+  entry = mark-read .before .before .before .before .before .before .before .before .before .before .before .before
+
 mark-at-requires : tie.Need-mark-at-requires
 mark-at-requires c κs = search needs
 
@@ -28,30 +39,20 @@ same-length-3 c = search needs
 
 returns : tie.Need-returns
 returns c =
-    let after-settle = c .before .before .before .before .before in
-    let after-needs-no-page = after-settle .before .before .before .before in
-    let after-mark-at = after-needs-no-page .before in
-    let entry =
-    after-mark-at .before .before .before .before .before .before .before .before .before .before .before
-    .before in
-    let a = entry .args in
-    let pre = entry .pre in
-    let settled = after-settle .settle .ensures in (
-      stepped-over (now (a .image)) (a .df) (a .u) (a .count) _ (now (a .times)) (now (a .preds))
-          (now (a .marks)) (now (a .list)) _ _ (after-mark-at .mark-at .ensures)
-          (after-needs-no-page .needs-no-page .ensures) (settled .0) (c .if1 .taken),
-      ((omega arith, omega arith, refl), (pre .1 .1 .1 .1 .0, settled .1)),
+    let settled = c .before .before .before .before .before in
+    let a = entry settled .args in
+    let done = settled .settle .ensures in (
+      stepped-over (now (a .image)) (a .df) (a .u) (a .count) _ (now (a .times)) (now (a .preds)) (now (a .marks))
+          (now (a .list)) _ _ (mark-read settled .mark-at .ensures) (judged settled .needs-no-page .ensures)
+          (done .0) (c .if1 .taken),
+      ((omega arith, omega arith, refl), (entry settled .pre .1 .1 .1 .1 .0, done .1)),
     )
 
 refer-requires : tie.Need-refer-requires
 refer-requires c κs =
-    let after-settle =
-    c .before .before .before .before .before .before .before .before .before .before .before .before in
-    let entry =
-    after-settle .before .before .before .before .before .before .before .before .before .before .before
-    .before .before .before .before .before .before in
-    let pre = entry .pre in
-    (pre .0, (pre .1 .0, (pre .1 .1 .0, (pre .1 .1 .1 .0, (pre .1 .1 .1 .1 .0, after-settle .settle .ensures .1)))))
+    let settled = c .before .before .before .before .before .before .before .before .before .before .before .before in
+    let pre = entry settled .pre in
+    (pre .0, (pre .1 .0, (pre .1 .1 .0, (pre .1 .1 .1 .0, (pre .1 .1 .1 .1 .0, settled .settle .ensures .1)))))
 
 same-length-4 : tie.Need-same-length-4
 same-length-4 c = search needs
@@ -77,22 +78,16 @@ same-length-10 c = search needs
 returns-2 : tie.Need-returns-2
 returns-2 c =
     let after-refer =
-    c .before .before .before .before .before .before .before .before .before .before .before .before
-    .before .before in
-    let after-if1 = after-refer .before .before .before .before .before .before .before .before in
-    let after-settle = after-if1 .before .before .before .before .before in
-    let after-needs-no-page = after-settle .before .before .before .before in
-    let after-mark-at = after-needs-no-page .before in
-    let entry =
-    after-mark-at .before .before .before .before .before .before .before .before .before .before .before
+    c .before .before .before .before .before .before .before .before .before .before .before .before .before
     .before in
-    let a = entry .args in
-    let settled = after-settle .settle .ensures in
+    let needs-page = after-refer .before .before .before .before .before .before .before .before in
+    let settled = needs-page .before .before .before .before .before in
+    let a = entry settled .args in
     let referred = after-refer .refer .ensures in
     let count = referred .1 .0 .0 in (
       stepped-on (now (a .image)) (a .df) (a .u) (a .count) _ (now (a .times)) (now (a .preds)) (now (a .marks))
-          (now (a .list)) _ _ (after-mark-at .mark-at .ensures) (after-needs-no-page .needs-no-page .ensures)
-          (settled .0) (after-if1 .if1 .left) _ (referred .0),
+          (now (a .list)) _ _ (mark-read settled .mark-at .ensures) (judged settled .needs-no-page .ensures)
+          (settled .settle .ensures .0) (needs-page .if1 .left) _ (referred .0),
       (
         (
           omega (arith, count),
