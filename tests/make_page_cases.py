@@ -10,6 +10,7 @@ import random
 import sys
 from pathlib import Path
 
+from maps import image, move, page, station, u16
 from reader import PAGE, parse, read_page, whole_check
 
 FOLDER = Path(__file__).resolve().parent.parent / 'crates' / 'page_test'
@@ -17,31 +18,6 @@ ANSWERS, SWEEP = 1, 2  # the kinds of case
 
 
 # Maps and pages
-
-def u16(number):
-    return number.to_bytes(2, 'little')
-
-
-def station(number):
-    return b'\x01' + u16(number)
-
-
-def move(target, time):
-    return b'\x02' + u16(target) + u16(time)
-
-
-def page(*parts):
-    """The parts, and zeros to the end of the page."""
-    data = b''.join(parts)
-    assert len(data) <= PAGE
-    return data + bytes(PAGE - len(data))
-
-
-def image(directory, *pages, p=None):
-    """An image; p stands in for the true page count."""
-    p = len(pages) if p is None else p
-    return u16(len(directory)) + u16(p) + bytes(directory) + b''.join(pages)
-
 
 def spelled(directory, moves, p):
     """Page p of a map whose station s has the moves moves.get(s): (target, time) pairs."""

@@ -12,6 +12,7 @@ import sys
 from pathlib import Path
 
 from demands import check
+from maps import image, move, page, station, u16, u32
 from reader import PAGE
 from searches import df, plain
 
@@ -25,35 +26,6 @@ PRIME = 4294967291
 
 
 # Maps and pages
-
-def u16(number):
-    return number.to_bytes(2, 'little')
-
-
-def u32(number):
-    return number.to_bytes(4, 'little')
-
-
-def station(number):
-    return b'\x01' + u16(number)
-
-
-def move(target, time):
-    return b'\x02' + u16(target) + u16(time)
-
-
-def page(*parts):
-    """The parts, and zeros to the end of the page."""
-    data = b''.join(parts)
-    assert len(data) <= PAGE
-    return data + bytes(PAGE - len(data))
-
-
-def image(directory, *pages, p=None):
-    """An image; p stands in for the true page count."""
-    p = len(pages) if p is None else p
-    return u16(len(directory)) + u16(p) + bytes(directory) + b''.join(pages)
-
 
 def spelled(directory, moves, pages):
     """The image of a map whose station s has the moves moves.get(s): (target, time) pairs, in any order."""
