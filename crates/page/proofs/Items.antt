@@ -82,7 +82,7 @@ module _ (page : List ℕ) (at : ℕ) where
   unfolding firstMoves
   moves-fault number e = ap firstMoves (items-fault page at number e)
 
--- What `note_starts` has still to note, by the command that it finds.
+-- What the page reader has still to note, by the command that it finds.
 module _ (page : List ℕ) (at : ℕ) (starts : List ℕ) where
   pub note-station : (v : ℕ) → commandAt page at ≡ Station v
       → noted (itemsAt page (at + 3)) (set starts v (at + 3)) ≡ noted (itemsAt page at) starts
@@ -97,10 +97,6 @@ module _ (page : List ℕ) (at : ℕ) (starts : List ℕ) where
   pub note-end : commandAt page at ≡ End → starts ≡ noted (itemsAt page at) starts
   unfolding noted
   note-end e = sym (ap (λ l. noted l starts) (items-end page at e))
-
-  pub note-fault : (number : ℕ) → commandAt page at ≡ Fault number → starts ≡ noted (itemsAt page at) starts
-  unfolding noted
-  note-fault number e = sym (ap (λ l. noted l starts) (items-fault page at number e))
 
 pub length-noted : (items : List Item) (starts : List ℕ) → length (noted items starts) ≡ length starts
 unfolding noted

@@ -7,11 +7,11 @@ use Prim.Native.Nat.{ℕ, zero, suc, _+_, _≤_, _<_}
 use native.Mathlib.Omega.{arith}
 use lib.Dec.{lit≤, eqb, ltb, leb}
 use lib.ListN.{length, getD, drop}
-use borrow.Author.Tests.{leb-false, ltb-false, eqb-true, eqb-false, le-leb}
+use borrow.Author.Tests.{leb-false, ltb-false, eqb-true, eqb-false, le-leb, lt-leb, le-ltb, lt-ltb}
 use Rattle.page.specs.declared.Move.{Move}
 use Rattle.page.specs.declared.Command.{Command}
 use Rattle.page.specs.declared.Command.the-variants.{End, Station, MoveTo, Fault}
-use Rattle.page.specs.Bytes.{pick}
+use Rattle.page.specs.Bytes.{pick, word}
 use Rattle.page.specs.Reading.{lengthOf, commandAt, judgedAt}
 use Rattle.page.proofs.Judging.{judge-keeps}
 
@@ -55,6 +55,32 @@ module _ (page : List ℕ) (at : ℕ) where
   pub command-within : Within at (length page) (commandAt page at)
   unfolding commandAt
   command-within = within-cases (getD page at 0) _ _ _ _ _ _ _ refl refl refl refl refl
+
+  -- each command by its code, where it ends within the page and where it does not
+  pub command-move : at < length page → getD page at 0 ≡ 2 → at + 5 ≤ length page
+      → commandAt page at ≡ MoveTo (record { target = word page (at + 1); time = word page (at + 3) })
+  unfolding commandAt
+  command-move h e l = simp (lt-leb _ _ h, e, le-ltb _ _ l)
+
+  pub command-station : at < length page → getD page at 0 ≡ 1 → at + 3 ≤ length page
+      → commandAt page at ≡ Station (word page (at + 1))
+  unfolding commandAt
+  command-station h e l = simp (lt-leb _ _ h, e, le-ltb _ _ l)
+
+  pub command-end : at < length page → getD page at 0 ≡ 0 → commandAt page at ≡ End
+  unfolding commandAt
+  command-end h e = let l : at + 1 ≤ length page = omega arith in simp (lt-leb _ _ h, e, le-ltb _ _ l)
+
+  pub command-cut : (code : ℕ) → code < 3 → at < length page → getD page at 0 ≡ code
+      → length page < at + lengthOf code → commandAt page at ≡ Fault 9
+  unfolding commandAt
+  command-cut code k h e l =
+      let known : code ≤ 2 = omega arith in
+      simp (lt-leb _ _ h, e, le-ltb _ _ known, lt-ltb _ _ l)
+
+  pub command-unknown : at < length page → 2 < getD page at 0 → commandAt page at ≡ Fault 8
+  unfolding commandAt
+  command-unknown h l = simp (lt-leb _ _ h, lt-ltb _ _ l)
 
   -- past the page's end there is no command
   pub command-past : length page ≤ at → commandAt page at ≡ Fault 9

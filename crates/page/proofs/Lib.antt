@@ -18,3 +18,5 @@ pub mod Promise
 pub mod Written
 pub mod Starts
 pub mod Agree
+-- How large the numbers of a refusal can be.
+pub mod Offsets

@@ -1,4 +1,4 @@
--- Where the moves of a good page's stations begin: after `note_starts` the noted offset of each station of the page
+-- Where the moves of a good page's stations begin: after `read_page` the noted offset of each station of the page
 -- leads to its moves, and the entries of all other stations are as they were. No station stands twice on a page, so
 -- that what is noted for one is not noted again.
 use mathlib.Core.Path.{_≡_, refl, ap, sym, _∙_}
@@ -16,9 +16,10 @@ use Rattle.page.specs.declared.Command.{Command}
 use Rattle.page.specs.declared.Command.the-variants.{End, Station, MoveTo, Fault}
 use Rattle.page.specs.Bytes.{Bytes}
 use Rattle.page.specs.Reading.{Leaving, good, commandAt, readPage}
-use Rattle.page.specs.Walk.{Item, station, move, itemsAt, stationsIn, movesAt, movesOf, noted, startsNoted}
+use Rattle.page.specs.Walk.{Item, station, move, itemsAt, stationsIn, movesAt, movesOf, noted, startsNoted, KeptOffPage}
 use Rattle.page.specs.Good.{stationsOn, names}
 use Rattle.page.proofs.Items.{none-past-end, items-end, items-fault, items-station, items-move}
+use Rattle.page.proofs.Items.{note-station, note-end}
 use Rattle.page.proofs.Stations.{on-page, listed-on, Rising, rising-above, rising-from}
 use Rattle.page.proofs.Promise.{promise}
 
@@ -115,3 +116,34 @@ module _ (directory : List ℕ) (p : ℕ) (page : List ℕ) (bytes : Bytes page)
 
   pub starts-kept : getD directory u 0 ≢ p → getD (startsNoted page starts) u 0 ≡ getD starts u 0
   starts-kept n = noted-other (itemsAt page 0) starts u (λ m. n (on-page directory p u (rw names-are at m) .1))
+
+-- What the page reader's loops keep of the table: noting what stands from `at` on in the table as it is now gives the
+-- table that is wanted, and only entries of the page's own stations have changed.
+pub record Noting (directory : List ℕ) (p : ℕ) (page before starts : List ℕ) (at : ℕ) : Type 0 where
+  pub wanted : noted (itemsAt page at) starts ≡ startsNoted page before
+  pub same : length starts ≡ length before
+  pub others : KeptOffPage directory p before starts
+
+module _ (directory : List ℕ) (p : ℕ) (page before : List ℕ) where
+  pub noting-start : Noting directory p page before before 0
+  noting-start = record { wanted = refl; same = refl; others = λ u n. refl }
+
+  module _ (starts : List ℕ) (at : ℕ) (n : Noting directory p page before starts at) where
+    -- moves passed over
+    pub noting-later : (later : ℕ) → noted (itemsAt page later) starts ≡ noted (itemsAt page at) starts
+        → Noting directory p page before starts later
+    noting-later later e = record { wanted = e ∙ n .wanted; same = n .same; others = n .others }
+
+    pub noting-station : (v : ℕ) (after : List ℕ) → commandAt page at ≡ Station v → getD directory v 0 ≡ p
+        → after ≡ set starts v (at + 3) → Noting directory p page before after (at + 3)
+    noting-station v after e on stored = record {
+      wanted = ap (noted (itemsAt page (at + 3))) stored ∙ note-station page at starts v e ∙ n .wanted;
+      same = ap length stored ∙ length-set starts v (at + 3) ∙ n .same;
+      others = λ u off.
+          ap (λ s. getD s u 0) stored ∙
+          getD-set-other starts v u (at + 3) 0 (λ same. off (ap (λ w. getD directory w 0) same ∙ on)) ∙
+          n .others u off;
+    }
+
+    pub noting-end : commandAt page at ≡ End → starts ≡ startsNoted page before
+    noting-end e = note-end page at starts e ∙ n .wanted

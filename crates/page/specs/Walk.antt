@@ -1,13 +1,12 @@
 -- What the search walks of a page: its stations by the directory, and each station's moves by where they begin.
 -- These speak of the commands alone; on a good page they are its content (proofs/Promise.antt).
 use mathlib.Core.Path.{_≡_}
-use mathlib.Core.Bool.{Bool, true, false}
+use mathlib.Core.Logic.{_≢_}
 use mathlib.Core.List.{List, [], _∷_}
 use Prim.Native.Nat.{ℕ, zero, suc, _+_, _≤_, _<_}
 use lib.ListN.{length, getD, set}
 use lib.Dec.{eqb}
 use Rattle.page.specs.declared.Move.{Move}
-use Rattle.page.specs.declared.Command.{Command}
 use Rattle.page.specs.declared.Command.the-variants.{End, Station, MoveTo, Fault}
 use Rattle.page.specs.declared.MoveStep.{MoveStep}
 use Rattle.page.specs.declared.MoveStep.the-variants.{Next, NoMore}
@@ -76,3 +75,7 @@ startsNoted page starts = noted (itemsAt page 0) starts
 unfoldable pub movesOf : List Leaving → ℕ → List Move
 movesOf [] u = []
 movesOf (x ∷ xs) u = let rest = movesOf xs u in pick (eqb (x .station) u) (x .moves) rest
+
+-- The entries of the stations that are not on page p are as they were.
+abbrev pub KeptOffPage : List ℕ → ℕ → List ℕ → List ℕ → Type 0
+KeptOffPage directory p before after = (u : ℕ) → getD directory u 0 ≢ p → getD after u 0 ≡ getD before u 0

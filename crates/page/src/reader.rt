@@ -1,11 +1,11 @@
 // The page reader: a page is good, or has a first command at fault.
 
 ghost use mathlib.Core.Path.{_≡_};
-ghost use Prim.Native.Nat.{_<_};
-ghost use lib.ListN.{length, drop};
+ghost use lib.ListN.{drop, set};
 ghost use Rattle.page.specs.Reading.{judgeEnd, judgeStation, judgeMove, judgedAt, readPage};
 ghost use Rattle.page.specs.Check.{verdictOf};
-ghost use Rattle.page.specs.Walk.{Threaded};
+ghost use Rattle.page.specs.Walk.{Threaded, startsNoted, KeptOffPage};
+ghost use Rattle.page.specs.declared.Verdict.the-variants.{Good};
 use super::Command;
 use super::Move;
 use super::Verdict;
@@ -75,11 +75,29 @@ fn judged_at(page: &[u8], at: usize, size: usize, due: usize, after: usize, leas
     }
 }
 
+// Notes where the moves of station v begin; a number past the table is passed over.
+fn note(starts: &mut [usize], v: usize, at: usize)
+    ensures noted { λ _. ⌜ now (starts .exit) ≡ set (now (starts .entry)) v at ⌝ }
+{
+    if v < starts.len() {
+        starts[v] = at;
+    }
+}
+
 // Reads page p: good, or the number and the offset of the first command at fault. The directory comes threaded, so that
-// the station that is due is at hand.
-pub fn read_page(directory: &[u8], first: &[u16], next: &[u16], p: u8, page: &[u8]) -> Verdict
+// the station that is due is at hand. It is noted for each station of the page where its moves begin.
+pub fn read_page(
+    directory: &[u8],
+    first: &[u16],
+    next: &[u16],
+    p: u8,
+    page: &[u8],
+    starts: &mut [usize],
+) -> Verdict
     requires { ⌜ Threaded (now directory) (now first) (now next) ⌝ }
     ensures verdict { λ r. ⌜ r ≡ verdictOf (readPage (now (directory .entry)) p (now (page .entry))) ⌝ }
+    ensures noted { λ r. ⌜ (r ≡ Good → now (starts .exit) ≡ startsNoted (now (page .entry)) (now (starts .entry))) ⌝ }
+    ensures others { λ r. ⌜ KeptOffPage (now (directory .entry)) p (now (starts .entry)) (now (starts .exit)) ⌝ }
 {
     let size = directory.len();
     let mut due = first[p as usize] as usize;
@@ -106,6 +124,7 @@ pub fn read_page(directory: &[u8], first: &[u16], next: &[u16], p: u8, page: &[u
         after = station + 1;
         least = 0;
         at += 3;
+        note(starts, station, at);
     };
     Verdict::Bad { number, offset }
 }

@@ -19,13 +19,15 @@ fn check_pages(image: &[u8]) -> Checked
 {
     let mut first = [0u16; 256];
     let mut next = [0u16; 2048];
+    let mut starts = [0usize; 2048];
     let directory = directory_of(image);
     thread(directory, &mut first, &mut next);
     let pages = page_count(image);
     let mut p: usize = 0;
     while p < pages {
         let page = p as u8;
-        match read_page(directory, &first, &next, page, page_of(image, page)) {
+        let bytes = page_of(image, page);
+        match read_page(directory, &first, &next, page, bytes, &mut starts) {
             Verdict::Good => {}
             Verdict::Bad { number, offset } => {
                 return Checked::BadPage {

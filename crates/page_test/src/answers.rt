@@ -73,7 +73,8 @@ pub fn of_image(image: &[u8]) -> Answer {
 pub fn of_page(image: &[u8], directory: &[u8], first: &[u16], next: &[u16], p: u8) -> Answer
     requires { ⌜ Threaded (now directory) (now first) (now next) ⌝ }
 {
-    match read_page(directory, first, next, p, page_of(image, p)) {
+    let mut starts = [0usize; 2048];
+    match read_page(directory, first, next, p, page_of(image, p), &mut starts) {
         Verdict::Good => plain(0),
         Verdict::Bad { number, offset } => {
             Answer {

@@ -12,7 +12,7 @@ use lib.Dec.{eqb, ltb}
 use Rattle.net.specs.declared.Choice.{Choice}
 use Rattle.net.specs.declared.Choice.the-variants.{Station, Nobody}
 use Rattle.net.specs.Search.{pick, better, least}
-use Rattle.queue.specs.Queue.{noTime, nobody, waits, chosen, keyOf, keyIn, leafOf, Tree, Queue}
+use Rattle.queue.specs.Queue.{noTime, nobody, waits, chosen, keyOf, named, keyIn, leafOf, Tree, Queue}
 use Rattle.queue.proofs.Compare.{less-or-not}
 
 module _ (tree : List ℕ) (whole : Tree tree) where
@@ -80,14 +80,13 @@ module _ (key : ℕ → ℕ) where
   least-greatest x (suc k) n h = omega (arith, least-greatest x k n (λ v l. h v (omega arith)), h k (omega arith))
 
 -- The key x names what was chosen below k.
-Names : (ℕ → ℕ) → ℕ → ℕ → Choice → Type 0
+abbrev pub Names : (ℕ → ℕ) → ℕ → ℕ → Choice → Type 0
 Names time k x Nobody = x ≡ nobody
 Names time k x (Station m) = (m < k) × (time m < noTime) × (x ≡ time m * 2048 + m)
 
 -- One more station: the lesser of the two keys names the better choice.
-names-better : (time : ℕ → ℕ) (k x : ℕ) (test : Bool) (best : Choice) → k < 2048 → (test ≡ true → time k < noTime) →
+pub names-better : (time : ℕ → ℕ) (k x : ℕ) (test : Bool) (best : Choice) → k < 2048 → (test ≡ true → time k < noTime) →
     Names time k x best → Names time (suc k) (min x (pick test (time k * 2048 + k) nobody)) (better time k test best)
-unfolding Names
 names-better time k x false Nobody h timed n = omega arith
 names-better time k x false (Station m) h timed n = (omega arith, n .1, omega arith)
 names-better time k x true Nobody h timed n = (omega arith, timed refl, omega (arith, timed refl))
@@ -100,17 +99,12 @@ names-better time k x true (Station m) h timed n = go (ltb (time k) (time m)) re
 
 names-least : (time : ℕ → ℕ) (test : ℕ → Bool) → ((v : ℕ) → test v ≡ true → time v < noTime) → (k : ℕ) → k ≤ 2048 →
     Names time k (leastKey (λ v. pick (test v) (time v * 2048 + v) nobody) k) (least time test k)
-unfolding least leastKey Names
+unfolding least leastKey
 names-least time test timed zero h = refl
 names-least time test timed (suc k) h =
     names-better time k _ (test k) (least time test k) h (timed k) (names-least time test timed k (omega arith))
 
--- What a key says: nobody, or the station that is its remainder.
-abbrev pub named : ℕ → Choice
-named key = pick (eqb key nobody) Nobody (Station (key % 2048))
-
-names-named : (time : ℕ → ℕ) (k x : ℕ) (best : Choice) → k ≤ 2048 → Names time k x best → named x ≡ best
-unfolding Names
+pub names-named : (time : ℕ → ℕ) (k x : ℕ) (best : Choice) → k ≤ 2048 → Names time k x best → named x ≡ best
 names-named time k x Nobody h n = simp (eq-eqb x nobody n)
 names-named time k x (Station m) h n =
     let rest : x % 2048 ≡ m = omega arith in

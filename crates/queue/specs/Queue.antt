@@ -8,6 +8,7 @@ use Prim.Native.Nat.{ℕ, _+_, _*_, _%_, _<_, _≤_, min}
 use lib.ListN.{length, getD}
 use lib.Dec.{ltb, eqb}
 use Rattle.net.specs.declared.Choice.{Choice}
+use Rattle.net.specs.declared.Choice.the-variants.{Station, Nobody}
 use Rattle.net.specs.Search.{pick, least}
 
 -- The number that stands for no time.
@@ -29,6 +30,10 @@ chosen times marks = least (λ v. getD times v noTime) (λ v. waits (getD times 
 -- The key of station v: by time, then by number where it waits, and that of nobody otherwise.
 unfoldable pub keyOf : ℕ → ℕ → ℕ → ℕ
 keyOf time mark v = pick (waits time mark) (time * 2048 + v) nobody
+
+-- What a key says: nobody, or the station that is its remainder.
+abbrev pub named : ℕ → Choice
+named key = pick (eqb key nobody) Nobody (Station (key % 2048))
 
 -- The key of station v by the tables of a search; a number past their end has no time, and so the key of nobody.
 abbrev pub keyIn : List ℕ → List ℕ → ℕ → ℕ

@@ -4,8 +4,8 @@
 // nobody waits. What a search has to know after a change of its tables is in proofs/Queue.antt.
 ghost use mathlib.Core.Path.{_≡_};
 ghost use mathlib.Core.List.{List};
-ghost use Prim.Native.Nat.{ℕ, _<_, min};
-ghost use Rattle.queue.specs.Queue.{chosen, keyOf, Tree, Put, Queue};
+ghost use Prim.Native.Nat.{ℕ, _+_, _-_, _*_, _/_, _%_, _<_, min};
+ghost use Rattle.queue.specs.Queue.{chosen, keyOf, named, Tree, Put, Queue};
 use net::Choice;
 
 // No time: the entry of a station in the table of times until it has one.
@@ -31,27 +31,47 @@ pub fn key(time: u32, mark: u8, v: usize) -> u64
     NOBODY
 }
 
-fn lesser(a: u64, b: u64) -> u64
+pub fn lesser(a: u64, b: u64) -> u64
     ensures value { λ r. ⌜ r ≡ min a b ⌝ }
 {
     if b < a { b } else { a }
 }
 
-// The key of station v becomes `key`. The nodes above it follow, up to the first that stays as it is.
+// The other child of the node above node i.
+fn sibling(i: usize) -> usize
+    ensures value { λ r. ⌜ r ≡ 2 * (i / 2) + 1 - i % 2 ⌝ }
+{
+    2 * (i / 2) + 1 - i % 2
+}
+
+// The key of station v becomes `key`. The nodes above it follow, up to the first that stays as it is; `least` is what node
+// i holds, so that a turn waits for no node but the sibling.
 pub fn put(tree: &mut [u64], v: usize, key: u64)
     requires station { ⌜ v < 2048 ⌝ }
     requires nodes { ⌜ Tree (now tree) ⌝ }
     ensures changed { λ r. ⌜ Put (now (tree .entry)) v key (now (tree .exit)) ⌝ }
 {
     let mut i = LEAVES + v;
+    let mut least = key;
     tree[i] = key;
     while 1 < i {
+        least = lesser(least, tree[sibling(i)]);
         i = i / 2;
-        let least = lesser(tree[2 * i], tree[2 * i + 1]);
         if tree[i] == least {
             return;
         }
         tree[i] = least;
+    }
+}
+
+// The station that a key names.
+pub fn station_of(key: u64) -> Choice
+    ensures value { λ r. ⌜ r ≡ named key ⌝ }
+{
+    if key == NOBODY {
+        Choice::Nobody
+    } else {
+        Choice::Station((key % (LEAVES as u64)) as usize)
     }
 }
 
@@ -60,10 +80,5 @@ pub fn next(tree: &[u64]) -> Choice
     requires nodes { ⌜ Tree (now tree) ⌝ }
     ensures first { λ r. ⌜ ((times marks : List ℕ) → Queue (now (tree .entry)) times marks → r ≡ chosen times marks) ⌝ }
 {
-    let key = tree[1];
-    if key == NOBODY {
-        Choice::Nobody
-    } else {
-        Choice::Station((key % (LEAVES as u64)) as usize)
-    }
+    station_of(tree[1])
 }

@@ -3,20 +3,23 @@
 use mathlib.Core.Path.{_≡_, refl, ap, sym, _∙_}
 use mathlib.Core.Bool.{Bool, true, false, not, _&&_}
 use mathlib.Core.List.{List, [], _∷_}
-use Prim.Native.Nat.{ℕ, zero, suc, _+_, _-_, _≤_, _<_}
+use Prim.Native.Nat.{ℕ, zero, suc, _+_, _-_, _*_, _≤_, _<_, min}
 use native.Mathlib.Omega.{arith}
 use native.Mathlib.Nat.{add-zero, add-suc}
 use native.Mathlib.Numerals.{add-one}
 use lib.Dec.{ltb, leb, eqb}
 use lib.ListN.{length, getD, drop, length-drop}
 use lib.Seq.{getD-drop}
-use borrow.Author.Tests.{eq-eqb, ne-eqb}
+use borrow.Author.Tests.{eq-eqb, ne-eqb, ltb-true}
 use Rattle.net.specs.declared.Choice.{Choice}
-use Rattle.net.specs.declared.Choice.the-variants.{Nobody}
-use Rattle.net.specs.Search.{better, least, chooseOn}
+use Rattle.net.specs.declared.Choice.the-variants.{Station, Nobody}
+use Rattle.net.specs.Search.{pick, better, least, chooseOn}
 use Rattle.page.specs.Reading.{firstOn, nextOn}
 use Rattle.page.specs.Walk.{Threaded}
+use Rattle.page.proofs.Judging.{never}
 use Rattle.page.proofs.Threads.{due-on}
+use Rattle.queue.specs.Queue.{nobody, named}
+use Rattle.queue.proofs.Root.{Names, names-better, names-named}
 use Rattle.relax.specs.Tables.{noTime, frame, timesAndMarks}
 
 -- where nobody from n up to m passes, the least below m is the least below n
@@ -56,24 +59,40 @@ module _ (directory : List ℕ) (p : ℕ) (times marks : List ℕ) where
   abbrev stale : ℕ → Bool
   stale v = not (leb 2 (getD marks v 0)) && ltb (getD times v noTime) noTime
 
+  stale-timed : (v : ℕ) → stale v ≡ true → key v < noTime
+  stale-timed v e = go (leb 2 (getD marks v 0)) (ltb (key v) noTime) refl e
+    where
+      go : (fresh timed : Bool) → ltb (key v) noTime ≡ timed → (not fresh && timed) ≡ true → key v < noTime
+      go fresh true f q = ltb-true (key v) noTime f
+      go true false f q = never (cc)
+      go false false f q = never (cc)
+
   abbrev test : ℕ → Bool
   test v = eqb (getD directory v 0) p && stale v
 
-  -- the best of page p's stations below v, where v is the next station of page p
-  pub record Scanned (best : Choice) (v : ℕ) : Type 0 where
-    pub is : best ≡ least key test v
+  -- the least key of page p's stale stations below v, where v is the next station of page p
+  pub record Scanned (best v : ℕ) : Type 0 where
+    pub names : Names key v best (least key test v)
     pub within : v ≤ length directory
     pub on : v < length directory → getD directory v 0 ≡ p
 
-  next-scanned : (best : Choice) (after v : ℕ) → after ≤ length directory → v ≡ nextOn directory p after
-      → best ≡ least key test after → Scanned best v
+  names-later : (after v best : ℕ) (choice : Choice) → after ≤ v → Names key after best choice
+      → Names key v best choice
+  names-later after v best Nobody h n = n
+  names-later after v best (Station m) h n = (omega arith, n .1, n .2)
+
+  next-scanned : (best after v : ℕ) → after ≤ length directory → v ≡ nextOn directory p after
+      → Names key after best (least key test after) → Scanned best v
   unfolding nextOn
-  next-scanned best after v h e q = record {
-    is = q ∙ sym (ap (least key test) e ∙ least-skips key test after (firstOn p (drop after directory))
-        (λ j l k. ap (λ b. b && stale j) (ne-eqb (getD directory j 0) p (not-before j l k))));
-    within = omega (arith, first-most p (drop after directory), length-drop after directory);
-    on = λ k. due-on directory p after v k e;
-  }
+  next-scanned best after v h e n =
+      let same : least key test v ≡ least key test after =
+      ap (least key test) e ∙ least-skips key test after (firstOn p (drop after directory))
+      (λ j l k. ap (λ b. b && stale j) (ne-eqb (getD directory j 0) p (not-before j l k))) in
+      record {
+        names = rw same (names-later after v best (least key test after) (omega arith) n);
+        within = omega (arith, first-most p (drop after directory), length-drop after directory);
+        on = λ k. due-on directory p after v k e;
+      }
     where
       not-before : (j : ℕ) → after ≤ j → j < after + firstOn p (drop after directory) → getD directory j 0 ≡ p → ⊥
       not-before j l k q =
@@ -81,45 +100,29 @@ module _ (directory : List ℕ) (p : ℕ) (times marks : List ℕ) where
           first-skips p (drop after directory) (j - after) (omega arith)
           (getD-drop after directory (j - after) 0 ∙ ap (λ n. getD directory n 0) (sym i) ∙ q)
 
-  module _ (first next : List ℕ) (t : Threaded directory first next) where
-    pub scanned-start : p < 256 → Scanned Nobody (getD first p 0)
+  module _ (first next : List ℕ) (t : Threaded directory first next) (few : length directory ≤ 2048) where
+    pub scanned-start : p < 256 → Scanned nobody (getD first p 0)
     unfolding least
-    scanned-start h = next-scanned Nobody 0 (getD first p 0) (omega arith) (t .first-on p h) refl
+    scanned-start h = next-scanned nobody 0 (getD first p 0) (omega arith) (t .first-on p h) refl
 
-    pub scanned-on : (best more : Choice) (v : ℕ) → Scanned best v → v < length directory
-        → more ≡ better key v (stale v) best → Scanned more (getD next v 0)
+    pub scanned-on : (best more v : ℕ) → Scanned best v → v < length directory
+        → more ≡ min best (pick (stale v) (key v * 2048 + v) nobody) → Scanned more (getD next v 0)
     unfolding least
     scanned-on best more v s h e =
         let on = s .on h in
-        let passed : more ≡ least key test (v + 1) =
-        e ∙
-        rw (add-one v)
-        (ap (λ b. better key v (b && stale v) best) (sym (eq-eqb (getD directory v 0) p on)) ∙
-        ap (better key v (test v)) (s .is)) in
+        let passes : test v ≡ stale v = ap (λ b. b && stale v) (eq-eqb (getD directory v 0) p on) in
+        let better-named =
+        names-better key v best (stale v) (least key test v) (omega arith) (stale-timed v) (s .names) in
         next-scanned more (v + 1) (getD next v 0) (omega arith)
-        (t .next-on v h ∙ ap (λ q. nextOn directory q (v + 1)) on) passed
+        (t .next-on v h ∙ ap (λ q. nextOn directory q (v + 1)) on) (rw (e, add-one v, passes) better-named)
 
-    pub next-rises : (best : Choice) (v : ℕ) → Scanned best v → v < length directory → v < getD next v 0
+    pub next-rises : (best v : ℕ) → Scanned best v → v < length directory → v < getD next v 0
     unfolding nextOn
     next-rises best v s h = omega (arith, t .next-on v h)
 
-  pub scanned-end : (best : Choice) (v : ℕ) → Scanned best v → length directory ≤ v
-      → best ≡ chooseOn (frame directory) p (timesAndMarks times marks)
+  pub scanned-end : (best v : ℕ) (choice : Choice) → length directory ≤ 2048 → Scanned best v → length directory ≤ v
+      → choice ≡ named best → choice ≡ chooseOn (frame directory) p (timesAndMarks times marks)
   unfolding chooseOn
-  scanned-end best v s h = let e : v ≡ length directory = omega (arith, s .within) in s .is ∙ ap (least key test) e
-
--- One station considered, by whether it is stale.
-module _ (times marks : List ℕ) (v time mark : ℕ) (best : Choice) (stale : Bool) (et : time ≡ getD times v noTime)
-    (em : mark ≡ getD marks v 0)
-    (es : stale ≡ (not (leb 2 mark) && ltb time noTime)) where
-  is-stale : stale ≡ (not (leb 2 (getD marks v 0)) && ltb (getD times v noTime) noTime)
-  is-stale = rw (← et, ← em) es
-
-  pub considered-stale : (r : Choice) → stale ≡ true → r ≡ better (λ w. getD times w noTime) v true best
-      → r ≡ better (λ w. getD times w noTime) v (not (leb 2 (getD marks v 0)) && ltb (getD times v noTime) noTime) best
-  considered-stale r e q = q ∙ ap (λ b. better (λ w. getD times w noTime) v b best) (sym e ∙ is-stale)
-
-  pub considered-other : stale ≡ false
-      → best
-      ≡ better (λ w. getD times w noTime) v (not (leb 2 (getD marks v 0)) && ltb (getD times v noTime) noTime) best
-  considered-other e = ap (λ b. better (λ w. getD times w noTime) v b best) (sym e ∙ is-stale)
+  scanned-end best v choice few s h q =
+      let e : v ≡ length directory = omega (arith, s .within) in
+      q ∙ names-named key v best (least key test v) (omega arith) (s .names) ∙ ap (least key test) e

@@ -2,58 +2,38 @@
 // number, is marked fresh and its moves are relaxed. Only the page's own stations are looked at, by the threaded directory.
 
 ghost use mathlib.Core.Path.{_≡_};
-ghost use mathlib.Core.Bool.{true, not, _&&_};
+ghost use mathlib.Core.Bool.{not, _&&_};
 ghost use mathlib.Core.List.{List};
-ghost use Prim.Native.Nat.{ℕ, _<_};
+ghost use Prim.Native.Nat.{ℕ, _+_, _*_, _<_, _≤_, min};
 ghost use lib.ListN.{length, getD};
 ghost use lib.Dec.{ltb, leb};
 ghost use Rattle.net.specs.Net.{Move as NetMove};
-ghost use Rattle.net.specs.Search.{better, chooseOn, workThrough};
+ghost use Rattle.net.specs.Search.{pick, chooseOn, workThrough};
 ghost use Rattle.page.specs.Walk.{Threaded, movesAt};
-ghost use Rattle.queue.specs.Queue.{Queue};
+ghost use Rattle.queue.specs.Queue.{nobody, Queue};
 ghost use Rattle.relax.specs.Tables.{frame, tables, timesAndMarks, DoesOn, Inside, Located};
 use super::moves::visit;
-use super::tables::NO_TIME;
 use super::tables::mark_at;
 use super::tables::time_at;
 use net::Choice;
 
-// Whether a station of this time and mark is still to be visited.
-fn is_stale(time: u32, mark: u8) -> bool
-    ensures value { λ r. ⌜ r ≡ (not (leb 2 mark) && ltb time 4294967295) ⌝ }
+// The key of a station that has a time and is not fresh: by time, then by number; that of nobody otherwise.
+fn stale_key(time: u32, mark: u8, v: usize) -> u64
+    requires station { ⌜ v < 2048 ⌝ }
+    ensures value { λ r. ⌜ r ≡ pick (not (leb 2 mark) && ltb time 4294967295) (time * 2048 + v) nobody ⌝ }
 {
-    if 2 <= mark {
-        return false;
-    }
-    time < NO_TIME
+    let key = queue::key(time, 0, v);
+    if 2 <= mark { queue::NOBODY } else { key }
 }
 
-// The nearer of the best so far and v; of equals the best so far, which is the lower.
-fn nearer(times: &[u32], best: Choice, v: usize) -> Choice
-    ensures value { λ r. ⌜ r ≡ better (λ w. getD (now (times .entry)) w 4294967295) v true best ⌝ }
+// The lesser of the least key so far and that of v.
+fn considered(times: &[u32], marks: &[u8], least: u64, v: usize) -> u64
+    requires station { ⌜ v < 2048 ⌝ }
+    ensures value { λ r. ⌜ r ≡ min least
+        (pick (not (leb 2 (getD (now (marks .entry)) v 0)) && ltb (getD (now (times .entry)) v 4294967295) 4294967295)
+        (getD (now (times .entry)) v 4294967295 * 2048 + v) nobody) ⌝ }
 {
-    match best {
-        Choice::Nobody => Choice::Station(v),
-        Choice::Station(m) => {
-            if time_at(times, v) < time_at(times, m) {
-                return Choice::Station(v);
-            }
-            Choice::Station(m)
-        }
-    }
-}
-
-// The best so far, with v considered too.
-fn considered(times: &[u32], marks: &[u8], best: Choice, v: usize) -> Choice
-    ensures value { λ r. ⌜
-        r ≡ better (λ w. getD (now (times .entry)) w 4294967295) v
-        (not (leb 2 (getD (now (marks .entry)) v 0)) && ltb (getD (now (times .entry)) v 4294967295) 4294967295)
-        best ⌝ }
-{
-    if is_stale(time_at(times, v), mark_at(marks, v)) {
-        return nearer(times, best, v);
-    }
-    best
+    queue::lesser(least, stale_key(time_at(times, v), mark_at(marks, v), v))
 }
 
 // The station of page p to visit next.
@@ -65,18 +45,19 @@ pub fn choose_on(
     times: &[u32],
     marks: &[u8],
 ) -> Choice
+    requires few { ⌜ length (now directory) ≤ 2048 ⌝ }
     requires threaded { ⌜ Threaded (now directory) (now first) (now next) ⌝ }
     ensures value { λ r. ⌜
         r ≡ chooseOn (frame (now (directory .entry))) p (timesAndMarks (now (times .entry)) (now (marks .entry))) ⌝ }
 {
     let size = directory.len();
-    let mut best = Choice::Nobody;
+    let mut least = queue::NOBODY;
     let mut v = first[p as usize] as usize;
     while v < size {
-        best = considered(times, marks, best, v);
+        least = considered(times, marks, least, v);
         v = next[v] as usize;
     }
-    best
+    queue::station_of(least)
 }
 
 // Where the moves of a station begin, by the offsets noted.

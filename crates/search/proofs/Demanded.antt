@@ -23,6 +23,7 @@ use Rattle.page.specs.Image.{AgreeOnPage}
 use Rattle.page.specs.Image.{accepted as well-formed, refused as ill-formed}
 use Rattle.page.proofs.Judging.{never}
 use Rattle.page.proofs.Heading.{formed}
+use Rattle.page.proofs.Offsets.{PlaceBy256, heading-by-256}
 use Rattle.page.proofs.Agree.{stations-agree, heading-agrees, reading-agrees}
 use Rattle.relax.specs.Tables.{frame}
 use Rattle.search.specs.Map.{mapFrame, offered, mapPage}
@@ -46,18 +47,18 @@ module _ (image : List ℕ) (source : ℕ) where
   page = mapPage image
 
   -- neither 1 to 7 refuse the call
-  record Ready (t : Lent) : Type 0 where
-    heading : headingCheck image ≡ well-formed
-    inside : source < stationCount image
-    long : tooShort (stationCount image) t ≡ false
+  pub record Ready (t : Lent) : Type 0 where
+    pub heading : headingCheck image ≡ well-formed
+    pub inside : source < stationCount image
+    pub long : tooShort (stationCount image) t ≡ false
 
-  -- a call is refused before any page, or it is the search on the map
-  Told : (Frame → (ℕ → Page) → ℕ → State) → Lent → Handed → Type 0
+  -- a call is refused before any page, at no offset, or it is the search on the map
+  unfoldable pub Told : (Frame → (ℕ → Page) → ℕ → State) → Lent → Handed → Type 0
   Told search t h =
-      ((number : ℕ) × (place : Place) × (h ≡ handed (refused number place) t)) ⊎
+      ((number : ℕ) × (place : Place) × PlaceBy256 (ill-formed number place) × (h ≡ handed (refused number place) t)) ⊎
       (Ready t × (h ≡ onMap search image source t))
 
-  told : (search : Frame → (ℕ → Page) → ℕ → State) (t : Lent) → Told search t (searched search image source t)
+  pub told : (search : Frame → (ℕ → Page) → ℕ → State) (t : Lent) → Told search t (searched search image source t)
   unfolding searched Told
   told search t = by-heading (headingCheck image) refl
     where
@@ -66,18 +67,18 @@ module _ (image : List ℕ) (source : ℕ) where
           → Told search t
           (pick a (handed (refused 6 nowhere) t)
           (pick b (handed (refused 7 nowhere) t) (onMap search image source t)))
-      by-tables true b e x y = inl (6, nowhere, refl)
-      by-tables false true e x y = inl (7, nowhere, refl)
+      by-tables true b e x y = inl (6, nowhere, tt, refl)
+      by-tables false true e x y = inl (7, nowhere, tt, refl)
       by-tables false false e x y =
           inr (record { heading = e; inside = leb-false (stationCount image) source x; long = y }, refl)
 
       by-heading : (o : Outcome) → headingCheck image ≡ o → Told search t (afterHeading search image source t o)
-      by-heading (ill-formed number place) e = inl (number, place, refl)
+      by-heading (ill-formed number place) e = inl (number, place, subst PlaceBy256 e (heading-by-256 image), refl)
       by-heading well-formed e =
           by-tables (leb (stationCount image) source) (tooShort (stationCount image) t) e refl refl
 
   module _ (bytes : Bytes image) where
-    sound-of : (t : Lent) → Ready t → Sound F page source
+    pub sound-of : (t : Lent) → Ready t → Sound F page source
     sound-of t r = image-sound image bytes (r .heading) source (rw (formed image (r .heading) .directory) (r .inside))
 
     -- both searches' laws, by the flag
@@ -118,7 +119,7 @@ module _ (image : List ℕ) (source : ℕ) where
     pub times-are-least : (df : Bool) (t : Lent) → TimesAreLeast image source (searched (searchOf df) image source t)
     unfolding Told onMap
     times-are-least df t count r e = ⊎-elim
-        (λ k. never (let z = sym (ap (λ (h : Handed). h .reply) (k .2)) ∙ e in cc))
+        (λ k. never (let z = sym (ap (λ (h : Handed). h .reply) (k .3)) ∙ e in cc))
         (λ k.
         let ok = sound-of t (k .0) in
         let s = searchOf df F page source in
@@ -146,7 +147,7 @@ module _ (image : List ℕ) (source : ℕ) where
     pub page-is-first-bad : (df : Bool) (t : Lent) → PageIsFirstBad image source (searched (searchOf df) image source t)
     unfolding Told onMap
     page-is-first-bad df t number p offset count e = ⊎-elim
-        (λ k. never (let z = sym (ap (λ (h : Handed). h .reply) (k .2)) ∙ e in cc))
+        (λ k. never (let z = sym (ap (λ (h : Handed). h .reply) (k .3)) ∙ e in cc))
         (λ k.
         let s = searchOf df F page source in
         let replied = sym (ap (λ (h : Handed). h .reply) (k .1)) ∙ e in
@@ -172,7 +173,7 @@ module _ (image : List ℕ) (source : ℕ) where
     pub list-against-dijkstra : (t : Lent) → ListAgainstDijkstra image source t (searched dfSearch image source t)
     unfolding Told onMap
     list-against-dijkstra t count r e other same = ⊎-elim
-        (λ k. never (let z = sym (ap (λ (h : Handed). h .reply) (k .2)) ∙ e in cc))
+        (λ k. never (let z = sym (ap (λ (h : Handed). h .reply) (k .3)) ∙ e in cc))
         (λ k.
         let ok = sound-of t (k .0) in
         let d = dfSearch F page source in

@@ -6,7 +6,7 @@ use mathlib.Core.List.{List}
 use Prim.Native.Nat.{ℕ, _+_, _*_, _≤_, _<_}
 use native.Mathlib.Decide.{ℕ-discrete}
 use native.Mathlib.Omega.{arith}
-use lib.ListN.{length, drop, set, replicate, length-set, length-replicate, List·getD-eq-default, getD-replicate}
+use lib.ListN.{length, getD, drop, set, replicate, length-set, length-replicate, List·getD-eq-default, getD-replicate}
 use lib.ListN.{length-take}
 use lib.Seq.{getD-set-other, getD-take, getD-drop}
 use Rattle.net.proofs.Basics.Tests.{le-or-lt}
@@ -18,10 +18,9 @@ use Rattle.page.specs.Bytes.{Bytes, part}
 use Rattle.page.specs.Image.{stationCount, directoryOf, pageBytes}
 use Rattle.page.specs.Reading.{Reading, good, bad, Leaving, readPage}
 use Rattle.page.specs.Check.{readingOf, verdictOf}
-use Rattle.page.specs.Walk.{startsNoted}
+use Rattle.page.specs.Walk.{startsNoted, KeptOffPage}
 use Rattle.page.proofs.Judging.{never}
-use Rattle.page.proofs.Starts.{starts-found, starts-kept}
-use Rattle.page.proofs.Items.{length-noted}
+use Rattle.page.proofs.Starts.{starts-found}
 use Rattle.search.specs.Steps.{Noted, Known}
 
 -- a part of bytes is bytes
@@ -50,49 +49,50 @@ pub noted-verdict : (image : List ℕ) (p : ℕ) (starts : List ℕ) → Noted i
 noted-verdict image p starts n = sym (ap verdictOf (n .reads))
 
 module _ (image : List ℕ) (bytes : Bytes image) (few : length (directoryOf image) ≤ 2048) (p : ℕ)
-    (known starts : List ℕ) (k : Known image known starts)
-    (v : verdictOf (readingOf image p) ≡ Good) where
-  abbrev after : List ℕ
-  after = startsNoted (pageBytes image p) starts
-
-  pub noted-now : Noted image p after
+    (known starts after : List ℕ) (k : Known image known starts) where
+  -- a page read as good is noted
+  pub noted-now : verdictOf (readingOf image p) ≡ Good → after ≡ startsNoted (pageBytes image p) starts
+      → Noted image p after
   unfolding readingOf
-  noted-now =
+  noted-now v e =
       let g = good-reading (readingOf image p) v in
       record {
         moves = g .0;
         stations = g .1;
         reads = g .2;
         leads =
-            λ u h e.
-            starts-found (directoryOf image) p (pageBytes image p) (bytes-page image p bytes) (g .0) (g .1) (g .2)
-            starts u h e (omega (arith, k .stations));
+            λ u h on.
+            rw e
+            (starts-found (directoryOf image) p (pageBytes image p) (bytes-page image p bytes) (g .0) (g .1) (g .2)
+            starts u h on (omega (arith, k .stations)));
       }
 
-  -- another page's stations keep what was noted for them
-  noted-still : (q : ℕ) → q ≢ p → Noted image q starts → Noted image q after
-  unfolding readingOf
-  noted-still q ne n =
-      let g = good-reading (readingOf image p) v in
-      record {
-        moves = n .moves;
-        stations = n .stations;
-        reads = n .reads;
-        leads = λ u h e.
-            let kept =
-            starts-kept (directoryOf image) p (pageBytes image p) (bytes-page image p bytes) (g .0) (g .1) (g .2)
-            starts u (λ q′. ne (sym e ∙ q′)) in
-            rw kept (n .leads u h e);
-      }
+  module _ (others : KeptOffPage (directoryOf image) p starts after) (same : length after ≡ length starts) where
+    -- another page's stations keep what was noted for them
+    noted-still : (q : ℕ) → q ≢ p → Noted image q starts → Noted image q after
+    noted-still q ne n = record {
+      moves = n .moves;
+      stations = n .stations;
+      reads = n .reads;
+      leads = λ u h e. rw (others u (λ on. ne (sym e ∙ on))) (n .leads u h e);
+    }
 
-  pub known-more : p < 256 → Known image (set known p 1) after
-  known-more h = record {
-    pages = length-set known p 1 ∙ k .pages;
-    stations = length-noted _ starts ∙ k .stations;
-    noted = λ q l e. dite (ℕ-discrete q p)
-        (λ s. rw s noted-now)
-        (λ ne. noted-still q ne (k .noted q l (sym (getD-set-other known p q 1 0 ne) ∙ e)));
-  }
+    pub known-others : getD known p 0 ≢ 1 → Known image known after
+    known-others unknown = record {
+      pages = k .pages;
+      stations = same ∙ k .stations;
+      noted = λ q l e.
+          noted-still q (λ s. unknown (sym (ap (λ w. getD known w 0) s) ∙ e)) (k .noted q l e);
+    }
+
+    pub known-more : Noted image p after → Known image (set known p 1) after
+    known-more n = record {
+      pages = length-set known p 1 ∙ k .pages;
+      stations = same ∙ k .stations;
+      noted = λ q l e. dite (ℕ-discrete q p)
+          (λ s. rw s n)
+          (λ ne. noted-still q ne (k .noted q l (sym (getD-set-other known p q 1 0 ne) ∙ e)));
+    }
 
 -- at the start no page is known
 pub known-none : (image : List ℕ) → Known image (replicate 256 0) (replicate 2048 0)

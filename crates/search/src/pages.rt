@@ -9,7 +9,6 @@ ghost use Rattle.page.specs.Check.{readingOf, verdictOf};
 ghost use Rattle.page.specs.Walk.{Threaded};
 ghost use Rattle.search.specs.Steps.{Noted, Known};
 use page::Verdict;
-use page::commands::note_starts;
 use page::image::directory_of;
 use page::image::page_of;
 use page::reader::read_page;
@@ -35,10 +34,9 @@ pub fn fetch(
         return Verdict::Good;
     }
     let page = page_of(image, p);
-    let verdict = read_page(directory_of(image), first, next, p, page);
+    let verdict = read_page(directory_of(image), first, next, p, page, starts);
     match verdict {
         Verdict::Good => {
-            note_starts(page, starts);
             known[q] = 1;
         }
         Verdict::Bad {

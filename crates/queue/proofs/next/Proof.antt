@@ -1,22 +1,18 @@
--- What the root says is what the definition chooses (proofs/Root.antt). The two arms are the two things that a key can
--- say: nobody, or a station.
-use borrow.Author.Tests.{eq-eqb, ne-eqb}
-use borrow.Author.Needs.{needs}
+-- What the root says is what the definition chooses (proofs/Root.antt).
+use mathlib.Core.Path.{_∙_}
 use Rattle.queue.proofs.Root.{root-chosen}
+use borrow.Author.Needs.{needs}
 use Rattle.queue.proofs.next.Statement.{statement}
 use Rattle.queue.proofs.next.Tie as tie
 
-shared-slice-read-key : tie.Need-shared-slice-read-key
-shared-slice-read-key c = search needs
+shared-slice-read-station-of : tie.Need-shared-slice-read-station-of
+shared-slice-read-station-of c = search needs
 
-rem-t8 : tie.Need-rem-t8
-rem-t8 c = search needs
+station-of-requires : tie.Need-station-of-requires
+station-of-requires c κs = search needs
 
 returns : tie.Need-returns
-returns c = λ times marks q. rw (eq-eqb _ _ (c .if1 .taken)) at (root-chosen q)
-
-returns-2 : tie.Need-returns-2
-returns-2 c = λ times marks q. rw (ne-eqb _ _ (c .if1 .left)) at (root-chosen q)
+returns c = λ times marks q. c .station-of .ensures ∙ root-chosen q
 
 pub next-spec : {M : Type 1} → statement M
-next-spec = tie.close (tie.spec shared-slice-read-key rem-t8 returns returns-2)
+next-spec = tie.close (tie.spec shared-slice-read-station-of station-of-requires returns)

@@ -1,17 +1,31 @@
 -- The loop of `put` keeps the invariant that the change is rising (proofs/Rising.antt), and its measure is the node's
 -- number. It ends at a node that stays as it is, or at the root.
-use mathlib.Core.Path.{_∙_}
+use mathlib.Core.Path.{_≡_, _∙_}
+use Prim.Native.Nat.{_+_, _*_, _/_, min}
 use native.Mathlib.Omega.{arith}
+use lib.ListN.{getD}
 use borrow.Author.Needs.{needs}
-use Rattle.queue.proofs.Rising.{Rising, rising-start, rising-step, rising-end}
+use Rattle.queue.proofs.Rising.{Rising, siblings, rising-start, rising-step, rising-end}
 use Rattle.queue.proofs.put.Statement.{statement}
 use Rattle.queue.proofs.put.Tie as tie
 
 abbrev Inv-loop : tie.InvT-loop
-Inv-loop tree₀ v key i₀ tree i = Rising tree₀ tree i
+Inv-loop tree₀ v key i₀ least₀ tree i least = Rising tree₀ tree i least
 
 abbrev μ-loop : tie.MeasureT-loop
-μ-loop tree₀ v key i₀ tree i = i
+μ-loop tree₀ v key i₀ least₀ tree i least = i
+
+-- The place where the lesser of a node and its sibling is known: it is what the node above has to hold.
+module _ (compared : tie.After-lesser Inv-loop μ-loop) where
+  abbrev in-turn : tie.At-loop Inv-loop μ-loop
+  in-turn = compared .before .before .before .before
+
+  lesser-of-both : compared .lesser .result
+      ≡ min (getD (in-turn .loop .tree) (2 * (in-turn .loop .i / 2)) 0)
+      (getD (in-turn .loop .tree) (2 * (in-turn .loop .i / 2) + 1) 0)
+  lesser-of-both =
+      siblings (in-turn .loop .tree) (in-turn .loop .i) _ _ _ (in-turn .loop .inv .held)
+      (compared .before .before .sibling .ensures) (compared .lesser .ensures)
 
 add-i : tie.Need-add-i Inv-loop μ-loop
 add-i c = search needs
@@ -25,26 +39,14 @@ slice-write-tree c = search needs
 loop-holds : tie.Need-loop-holds Inv-loop μ-loop
 loop-holds c = rising-start _ _ _ (c .before .pre .0) (c .before .pre .1)
 
+sibling-requires : tie.Need-sibling-requires Inv-loop μ-loop
+sibling-requires c κs = search needs
+
 mul-lesser : tie.Need-mul-lesser Inv-loop μ-loop
 mul-lesser c = search needs
 
-mul-lesser-2 : tie.Need-mul-lesser-2 Inv-loop μ-loop
-mul-lesser-2 c = search needs
-
 slice-read-lesser : tie.Need-slice-read-lesser Inv-loop μ-loop
 slice-read-lesser c = search needs
-
-mul-lesser-3 : tie.Need-mul-lesser-3 Inv-loop μ-loop
-mul-lesser-3 c = search needs
-
-add-lesser : tie.Need-add-lesser Inv-loop μ-loop
-add-lesser c = search needs
-
-mul-lesser-4 : tie.Need-mul-lesser-4 Inv-loop μ-loop
-mul-lesser-4 c = search needs
-
-slice-read-lesser-2 : tie.Need-slice-read-lesser-2 Inv-loop μ-loop
-slice-read-lesser-2 c = search needs
 
 lesser-requires : tie.Need-lesser-requires Inv-loop μ-loop
 lesser-requires c κs = search needs
@@ -60,10 +62,9 @@ same-length c = search needs
 
 returns : tie.Need-returns Inv-loop μ-loop
 returns c =
-    let turn = c .before .before .before .before .before .before in
+    let turn = in-turn (c .before .before) in
     let start = turn .before .before in
-    rising-end _ _ _ _ _ (start .pre .0) (start .pre .1) (turn .loop .inv)
-    (λ _. c .if1 .taken ∙ c .before .before .lesser .ensures)
+    rising-end _ _ _ _ _ _ (start .pre .0) (start .pre .1) (turn .loop .inv) (λ _. c .if1 .taken ∙ lesser-of-both (c .before .before))
 
 mul-tree-2 : tie.Need-mul-tree-2 Inv-loop μ-loop
 mul-tree-2 c = search needs
@@ -76,8 +77,9 @@ loop-less c = search needs
 
 loop-again : tie.Need-loop-again Inv-loop μ-loop
 loop-again c =
-    let turn = c .before .before .before .before .before .before in
-    rising-step _ _ _ _ (turn .loop .inv) (omega arith) (c .before .before .lesser .ensures)
+    let after-lesser = c .before .before in
+    let turn = in-turn after-lesser in
+    rising-step _ _ _ _ _ (turn .loop .inv) (omega arith) (lesser-of-both after-lesser)
 
 same-length-2 : tie.Need-same-length-2 Inv-loop μ-loop
 same-length-2 c = search needs
@@ -86,7 +88,7 @@ returns-2 : tie.Need-returns-2 Inv-loop μ-loop
 returns-2 c =
     let turn = c .before in
     let start = turn .before .before in
-    rising-end _ _ _ _ (turn .loop .i) (start .pre .0) (start .pre .1) (turn .loop .inv)
+    rising-end _ _ _ _ (turn .loop .i) _ (start .pre .0) (start .pre .1) (turn .loop .inv)
     (λ l. absurd (omega (arith, l)))
 
 pub put-spec : {M : Type 1} → statement M
@@ -99,13 +101,9 @@ put-spec =
     mul-tree
     slice-write-tree
     loop-holds
+    sibling-requires
     mul-lesser
-    mul-lesser-2
     slice-read-lesser
-    mul-lesser-3
-    add-lesser
-    mul-lesser-4
-    slice-read-lesser-2
     lesser-requires
     mul-if1
     slice-read-if1

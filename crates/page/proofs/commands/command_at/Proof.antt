@@ -1,39 +1,14 @@
--- By the cases of the code: three tests find a fault; behind them the code is known and the command's bytes are on the
--- page, so that the code alone tells which command it is.
-use mathlib.Core.Path.{_≡_, sym, _∙_}
-use mathlib.Core.List.{List}
+-- By the cases of the code (proofs/Lengths.antt): past the page, a known code whose command ends within the page or does
+-- not, and an unknown code.
+use mathlib.Core.Path.{sym, _∙_}
 use native.Mathlib.Omega.{arith}
-use borrow.Author.Tests.{le-ltb, lt-ltb, le-leb, lt-leb, eq-eqb, ne-eqb}
-use Prim.Native.Nat.{ℕ, _+_}
 use denote.Ref.{now}
-use lib.Dec.{eqb}
-use lib.ListN.{getD}
-use borrow.Author.Needs.{needs}
-use Rattle.page.specs.declared.Command.{Command}
-use Rattle.page.specs.declared.Command.the-variants.{End, Station, MoveTo}
-use Rattle.page.specs.Bytes.{pick, word}
+use borrow.Author.Tests.{le-leb, leb-true, leb-false}
 use Rattle.page.specs.Reading.{commandAt}
-use Rattle.page.proofs.Lengths.{length-most}
+use Rattle.page.proofs.Lengths.{command-move, command-station, command-end, command-cut, command-unknown}
+use borrow.Author.Needs.{needs}
 use Rattle.page.proofs.commands.command_at.Statement.{statement}
 use Rattle.page.proofs.commands.command_at.Tie as tie
-
--- The command that a known code makes of the bytes behind it.
-abbrev byCode : List ℕ → ℕ → Command
-byCode page at =
-    pick (eqb (getD page at 0) 0) End
-    (pick (eqb (getD page at 0) 1) (Station (word page (at + 1)))
-    (MoveTo (record { target = word page (at + 1); time = word page (at + 3) })))
-
-code-tells : (c : tie.Else3)
-    → let a = c .before .before .before .before .before .args in
-    commandAt (now (a .page)) (a .at) ≡ byCode (now (a .page)) (a .at)
-unfolding commandAt
-code-tells c =
-    simp (
-      lt-leb _ _ (c .before .before .before .if1 .left),
-      le-ltb _ _ (c .before .if2 .left),
-      le-ltb _ _ (c .if3 .left),
-    )
 
 returns : tie.Need-returns
 unfolding commandAt
@@ -42,35 +17,8 @@ returns c = simp (le-leb _ _ (c .if1 .taken))
 shared-slice-read-code : tie.Need-shared-slice-read-code
 shared-slice-read-code c = search needs
 
-cast-code : tie.Need-cast-code
-cast-code c = omega (arith, c .shared-slice-known2 .given (c .before .before .before .args .at))
-
-returns-2 : tie.Need-returns-2
-unfolding commandAt
-returns-2 c = simp (lt-leb _ _ (c .before .before .if1 .left), lt-ltb _ _ (c .if2 .taken))
-
-mul-if3 : tie.Need-mul-if3
-mul-if3 c = search needs
-
-array-read-if3 : tie.Need-array-read-if3
-array-read-if3 c = search needs
-
-add-if3 : tie.Need-add-if3
-add-if3 c =
-    let a = c .before .before .before .before .args in
-    omega (arith, length-most (getD (now (a .page)) (a .at) 0))
-
-returns-3 : tie.Need-returns-3
-unfolding commandAt
-returns-3 c =
-    simp (
-      lt-leb _ _ (c .before .before .before .if1 .left),
-      le-ltb _ _ (c .before .if2 .left),
-      lt-ltb _ _ (c .if3 .taken),
-    )
-
-returns-4 : tie.Need-returns-4
-returns-4 c = sym (code-tells (c .before) ∙ simp (eq-eqb _ _ (c .if4 .taken)))
+fits-requires : tie.Need-fits-requires
+fits-requires c κs = search needs
 
 add-word-at : tie.Need-add-word-at
 add-word-at c = search needs
@@ -78,18 +26,32 @@ add-word-at c = search needs
 word-at-requires : tie.Need-word-at-requires
 word-at-requires c κs = search needs
 
-returns-5 : tie.Need-returns-5
-returns-5 c =
-    let not-end = c .before .before in
-    sym
-    (code-tells (not-end .before) ∙
-    simp (ne-eqb _ _ (not-end .if4 .left), eq-eqb _ _ (c .before .if5 .taken), c .word-at .ensures))
-
 add-word-at-2 : tie.Need-add-word-at-2
 add-word-at-2 c = search needs
 
 word-at-requires-2 : tie.Need-word-at-requires-2
 word-at-requires-2 c κs = search needs
+
+returns-2 : tie.Need-returns-2
+returns-2 c =
+    let fitting = c .before .before in
+    let coded = fitting .before .before in
+    let inside = coded .before .before in
+    let a = inside .before .before .args in
+    rw (c .before .word-at .ensures, c .word-at2 .ensures)
+    (sym (command-move (now (a .page)) (a .at) (inside .if1 .left) (coded .if2 .taken)
+    (leb-true _ _ (sym (fitting .before .fits2 .ensures) ∙ fitting .if3 .taken))))
+
+returns-3 : tie.Need-returns-3
+returns-3 c =
+    let coded = c .before .before in
+    let inside = coded .before .before in
+    let a = inside .before .before .args in
+    sym (command-cut (now (a .page)) (a .at) 2 (omega arith) (inside .if1 .left) (coded .if2 .taken)
+    (leb-false _ _ (sym (c .before .fits2 .ensures) ∙ c .if3 .left)))
+
+fits-requires-2 : tie.Need-fits-requires-2
+fits-requires-2 c κs = search needs
 
 add-word-at-3 : tie.Need-add-word-at-3
 add-word-at-3 c = search needs
@@ -97,17 +59,37 @@ add-word-at-3 c = search needs
 word-at-requires-3 : tie.Need-word-at-requires-3
 word-at-requires-3 c κs = search needs
 
+returns-4 : tie.Need-returns-4
+returns-4 c =
+    let fitting = c .before in
+    let coded = fitting .before .before in
+    let inside = coded .before .before .before in
+    let a = inside .before .before .args in
+    rw (c .word-at3 .ensures)
+    (sym (command-station (now (a .page)) (a .at) (inside .if1 .left) (coded .if4 .taken)
+    (leb-true _ _ (sym (fitting .before .fits3 .ensures) ∙ fitting .if5 .taken))))
+
+returns-5 : tie.Need-returns-5
+returns-5 c =
+    let coded = c .before .before in
+    let inside = coded .before .before .before in
+    let a = inside .before .before .args in
+    sym (command-cut (now (a .page)) (a .at) 1 (omega arith) (inside .if1 .left) (coded .if4 .taken)
+    (leb-false _ _ (sym (c .before .fits3 .ensures) ∙ c .if5 .left)))
+
 returns-6 : tie.Need-returns-6
 returns-6 c =
-    let not-end = c .before .before .before in
-    sym
-    (code-tells (not-end .before) ∙
-    simp (
-      ne-eqb _ _ (not-end .if4 .left),
-      ne-eqb _ _ (c .before .before .if5 .left),
-      c .before .word-at2 .ensures,
-      c .word-at3 .ensures,
-    ))
+    let inside = c .before .before .before .before in
+    let a = inside .before .before .args in
+    sym (command-end (now (a .page)) (a .at) (inside .if1 .left) (c .if6 .taken))
+
+returns-7 : tie.Need-returns-7
+returns-7 c =
+    let not-move = c .before .before in
+    let inside = not-move .before .before in
+    let a = inside .before .before .args in
+    sym (command-unknown (now (a .page)) (a .at) (inside .if1 .left)
+    (omega (arith, c .if6 .left, c .before .if4 .left, not-move .if2 .left)))
 
 pub command-at-spec : {M : Type 1} → statement M
 command-at-spec =
@@ -115,18 +97,17 @@ command-at-spec =
     (tie.spec
     returns
     shared-slice-read-code
-    cast-code
-    returns-2
-    mul-if3
-    array-read-if3
-    add-if3
-    returns-3
-    returns-4
+    fits-requires
     add-word-at
     word-at-requires
-    returns-5
     add-word-at-2
     word-at-requires-2
+    returns-2
+    returns-3
+    fits-requires-2
     add-word-at-3
     word-at-requires-3
-    returns-6)
+    returns-4
+    returns-5
+    returns-6
+    returns-7)

@@ -1,30 +1,37 @@
 -- Both loops keep `Left`: what is left to read from the offset `at` on decides the verdict on the page. Each arm of
--- the match is one step of the definition (proofs/Left.antt); at a station the thread tells which one is due next.
-use mathlib.Core.Path.{sym, _∙_}
+-- the match is one step of the definition (proofs/Left.antt); at a station the thread tells which one is due next. Beside
+-- it they keep `Noting`: what is left to note (proofs/Starts.antt).
+use mathlib.Core.Path.{_≡_, refl, sym, _∙_}
 use mathlib.Core.List.{List}
 use native.Mathlib.Omega.{arith}
 use Prim.Native.Nat.{ℕ, _+_, _-_, _≤_, _<_}
 use denote.Ref.{now}
 use lib.ListN.{length, getD}
 use borrow.Author.Needs.{needs}
+use Rattle.page.specs.Walk.{itemsAt, noted}
+use Rattle.page.proofs.Judging.{never, judged-end, judged-station, judged-move}
 use Rattle.page.proofs.Left.{Left, left-start, left-move, left-threaded, left-end, left-fault}
 use Rattle.page.proofs.Left.{move-room, station-room, station-known}
+use Rattle.page.proofs.Items.{note-move}
+use Rattle.page.proofs.Starts.{Noting, noting-start, noting-later, noting-station, noting-end}
 use Rattle.page.proofs.reader.read_page.Statement.{statement}
 use Rattle.page.proofs.reader.read_page.Tie as tie
 
 abbrev Inv-loop : tie.InvT-loop
-Inv-loop directory first next p page size due at₀ after least₀ number₀ at least number =
+Inv-loop directory first next p page starts size due at₀ after least₀ number₀ at least number =
     Left directory p page at due after least × (at₀ ≤ at)
+    × (noted (itemsAt page at) starts ≡ noted (itemsAt page at₀) starts)
 
 abbrev μ-loop : tie.MeasureT-loop
-μ-loop directory first next p page size due at₀ after least₀ number₀ at least number = length page - at
+μ-loop directory first next p page starts size due at₀ after least₀ number₀ at least number = length page - at
 
 abbrev Inv-page : tie.InvT-page
-Inv-page directory first next p page size due₀ at₀ after₀ least₀ number₀ due at after least number =
-    Left directory p page at due after least
+Inv-page directory first next p page starts₀ size due₀ at₀ after₀ least₀ number₀ starts due at after least number =
+    Left directory p page at due after least × Noting directory p page starts₀ starts at
 
 abbrev μ-page : tie.MeasureT-page
-μ-page directory first next p page size due₀ at₀ after₀ least₀ number₀ due at after least number = length page - at
+μ-page directory first next p page starts₀ size due₀ at₀ after₀ least₀ number₀ starts due at after least number =
+    length page - at
 
 -- The place behind `judged_at`, where the arms of the match begin.
 abbrev Judged : Type 0
@@ -32,7 +39,7 @@ Judged = tie.After-judged-at Inv-loop μ-loop Inv-page μ-page
 
 module _ (j : Judged) where
   abbrev entry : tie.Start Inv-loop μ-loop Inv-page μ-page
-  entry = j .before .before .before .before .before .before .before .before
+  entry = j .before .before .before .before .before .before .before .before .before
 
   abbrev directory : List ℕ
   directory = now (entry .args .directory)
@@ -42,6 +49,9 @@ module _ (j : Judged) where
 
   abbrev p : ℕ
   p = entry .args .p
+
+  abbrev starts : List ℕ
+  starts = j .before .before .page .starts
 
   abbrev at : ℕ
   at = j .before .loop .at
@@ -58,24 +68,32 @@ module _ (j : Judged) where
   abbrev left : Left directory p page at due after least
   left = j .before .loop .inv .0
 
+  noting : Noting directory p page (now (entry .args .starts)) starts at
+  noting =
+      noting-later directory p page (now (entry .args .starts)) starts _ (j .before .before .page .inv .1) at
+      (j .before .loop .inv .2)
+
 -- The arm of a move: the move is within the page, and what follows it is left.
 move-read : (c : tie.After-m Inv-loop μ-loop Inv-page μ-page)
     → let j = c .before .before in
     (at j + 5 ≤ length (page j))
     × Left (directory j) (p j) (page j) (at j + 5) (due j) (after j) (c .m .given .0 .0 .target + 1)
+    × (noted (itemsAt (page j) (at j + 5)) (starts j) ≡ noted (itemsAt (page j) (at j)) (starts j))
 move-read c =
     let j = c .before .before in
     let m = c .m .given .0 .0 in
     let found = sym (j .judged-at .ensures) ∙ c .m .given .1 in (
       move-room (directory j) (p j) (page j) (at j) (due j) (after j) (least j) (left j) m found,
       left-move (directory j) (p j) (page j) (at j) (due j) (after j) (least j) (left j) m found,
+      note-move (page j) (at j) (starts j) m
+          (judged-move (page j) (at j) (length (directory j)) (due j) (after j) (least j) m found .0),
     )
 
 -- The arm of a station: it is below N and within the page, and what follows it is left.
 station-read : (c : tie.After-v Inv-loop μ-loop Inv-page μ-page)
     → let j = c .before .before in
     let v = c .v .given .0 .0 in
-    (v < length (directory j)) × (at j + 3 ≤ length (page j))
+    ((v < length (directory j)) × (getD (directory j) v 0 ≡ p j)) × (at j + 3 ≤ length (page j))
     × Left (directory j) (p j) (page j) (at j + 3) (getD (now (entry j .args .next)) v 0) (v + 1) 0
 station-read c =
     let j = c .before .before in
@@ -83,31 +101,33 @@ station-read c =
     let a = entry j .args in
     let found = sym (j .judged-at .ensures) ∙ c .v .given .1 in
     let step = left-threaded (directory j) (p j) (page j) (at j) (due j) (after j) (least j) (left j) in (
-      station-known (directory j) (p j) (page j) (at j) (due j) (after j) (least j) (left j) v found .0,
+      station-known (directory j) (p j) (page j) (at j) (due j) (after j) (least j) (left j) v found,
       station-room (directory j) (p j) (page j) (at j) (due j) (after j) (least j) (left j) v found,
       step (now (a .first)) (now (a .next)) v (entry j .pre) found,
     )
 
 mul-due : tie.Need-mul-due Inv-loop μ-loop Inv-page μ-page
-mul-due c = omega (arith, c .before .before .before .before .fits .p)
+mul-due c = omega (arith, c .before .before .before .before .before .fits .p)
 
 shared-slice-read-due : tie.Need-shared-slice-read-due Inv-loop μ-loop Inv-page μ-page
 shared-slice-read-due c =
-    let start = c .before .before .before .before .before in
+    let start = c .before .before .before .before .before .before in
     omega (arith, start .pre .pages, start .fits .p)
 
 cast-due : tie.Need-cast-due Inv-loop μ-loop Inv-page μ-page
-cast-due c = omega (arith, c .shared-slice-known5 .given (c .before .before .before .before .before .args .p))
+cast-due c = omega (arith, c .shared-slice-known5 .given (c .before .before .before .before .before .before .args .p))
 
 page-holds : tie.Need-page-holds Inv-loop μ-loop Inv-page μ-page
 page-holds c =
-    let start = c .before .before .before .before .before in
+    let start = c .before .before .before .before .before .before in
     let a = start .args in
-    let first-due = start .pre .first-on (a .p) (omega (arith, start .fits .p)) in
-    left-start (now (a .directory)) (a .p) (now (a .page)) (getD (now (a .first)) (a .p) 0) first-due
+    let first-due = start .pre .first-on (a .p) (omega (arith, start .fits .p)) in (
+      left-start (now (a .directory)) (a .p) (now (a .page)) (getD (now (a .first)) (a .p) 0) first-due,
+      noting-start (now (a .directory)) (a .p) (now (a .page)) (now (a .starts)),
+    )
 
 loop-holds : tie.Need-loop-holds Inv-loop μ-loop Inv-page μ-page
-loop-holds c = (c .page .inv, omega arith)
+loop-holds c = (c .page .inv .0, omega arith, refl)
 
 judged-at-requires : tie.Need-judged-at-requires Inv-loop μ-loop Inv-page μ-page
 judged-at-requires c κs = search needs
@@ -128,7 +148,10 @@ loop-less : tie.Need-loop-less Inv-loop μ-loop Inv-page μ-page
 loop-less c = omega (arith, move-read (c .before .before) .0)
 
 loop-again : tie.Need-loop-again Inv-loop μ-loop Inv-page μ-page
-loop-again c = (move-read (c .before .before) .1, omega arith)
+loop-again c =
+    let arm = c .before .before in
+    let read = move-read arm in
+    (read .1, omega arith, read .2 ∙ arm .before .before .before .loop .inv .2)
 
 enum-known-v : tie.Need-enum-known-v Inv-loop μ-loop Inv-page μ-page
 enum-known-v c = search needs
@@ -139,11 +162,21 @@ cast-station c = search needs
 enum-told : tie.Need-enum-told Inv-loop μ-loop Inv-page μ-page
 enum-told c = search needs
 
+same-length : tie.Need-same-length Inv-loop μ-loop Inv-page μ-page
+same-length c = noting (c .before .before) .same
+
 returns : tie.Need-returns Inv-loop μ-loop Inv-page μ-page
 returns c =
     let j = c .before .before in
     let found = sym (j .judged-at .ensures) ∙ c .enum-told .given .1 in
-    left-end (directory j) (p j) (page j) (at j) (due j) (after j) (least j) (left j) found
+    let stands = judged-end (page j) (at j) (length (directory j)) (due j) (after j) (least j) found .0 in (
+      left-end (directory j) (p j) (page j) (at j) (due j) (after j) (least j) (left j) found,
+      (
+        (λ good.
+            noting-end (directory j) (p j) (page j) (now (entry j .args .starts)) (starts j) (at j) (noting j) stands),
+        noting j .others,
+      ),
+    )
 
 enum-known-k : tie.Need-enum-known-k Inv-loop μ-loop Inv-page μ-page
 enum-known-k c = search needs
@@ -154,7 +187,7 @@ mul-due-2 c = search needs
 shared-slice-read-due-2 : tie.Need-shared-slice-read-due-2 Inv-loop μ-loop Inv-page μ-page
 shared-slice-read-due-2 c =
     let j = c .before .before .before .before in
-    omega (arith, station-read (c .before .before) .0, entry j .pre .stations)
+    omega (arith, station-read (c .before .before) .0 .0, entry j .pre .stations)
 
 cast-due-2 : tie.Need-cast-due-2 Inv-loop μ-loop Inv-page μ-page
 cast-due-2 c = omega (arith, c .shared-slice-known6 .given (c .before .before .v .given .0 .0))
@@ -165,18 +198,36 @@ add-after c = search needs
 add-at-2 : tie.Need-add-at-2 Inv-loop μ-loop Inv-page μ-page
 add-at-2 c = omega (arith, station-read (c .before .before) .1)
 
+note-requires : tie.Need-note-requires Inv-loop μ-loop Inv-page μ-page
+note-requires c κs = search needs
+
 page-less : tie.Need-page-less Inv-loop μ-loop Inv-page μ-page
-page-less c = omega (arith, station-read (c .before .before) .1)
+page-less c = omega (arith, station-read (c .before .before .before .before .before .before) .1)
 
 page-again : tie.Need-page-again Inv-loop μ-loop Inv-page μ-page
-page-again c = station-read (c .before .before) .2
+page-again c =
+    let arm = c .before .before .before .before .before .before in
+    let j = arm .before .before in
+    let v = arm .v .given .0 .0 in
+    let found = sym (j .judged-at .ensures) ∙ arm .v .given .1 in
+    let read = station-read arm in
+    let stands = judged-station (page j) (at j) (length (directory j)) (due j) (after j) (least j) v found .0 in (
+      read .2,
+      noting-station (directory j) (p j) (page j) (now (entry j .args .starts)) (starts j) (at j) (noting j) v _ stands
+          (read .0 .1) (c .before .before .note .ensures),
+    )
+
+same-length-2 : tie.Need-same-length-2 Inv-loop μ-loop Inv-page μ-page
+same-length-2 c = noting (c .before .before .before) .same
 
 returns-2 : tie.Need-returns-2 Inv-loop μ-loop Inv-page μ-page
 returns-2 c =
     let j = c .before .before .before in
     let k = c .before .k .given in
-    let found = sym (j .judged-at .ensures) ∙ k .1 in
-    left-fault (directory j) (p j) (page j) (at j) (due j) (after j) (least j) (left j) (k .0 .0) found
+    let found = sym (j .judged-at .ensures) ∙ k .1 in (
+      left-fault (directory j) (p j) (page j) (at j) (due j) (after j) (least j) (left j) (k .0 .0) found,
+      ((λ good. never (cc)), noting j .others),
+    )
 
 pub read-page-spec : {M : Type 1} → statement M
 read-page-spec =
@@ -201,6 +252,7 @@ read-page-spec =
     enum-known-v
     cast-station
     enum-told
+    same-length
     returns
     enum-known-k
     mul-due-2
@@ -208,6 +260,8 @@ read-page-spec =
     cast-due-2
     add-after
     add-at-2
+    note-requires
     page-less
     page-again
+    same-length-2
     returns-2)

@@ -16,10 +16,11 @@ use Rattle.page.proofs.whole.check_pages.Statement.{statement}
 use Rattle.page.proofs.whole.check_pages.Tie as tie
 
 abbrev Inv-loop : tie.InvT-loop
-Inv-loop image first next directory pages p₀ p = pagesFrom image (pages - p) p ≡ pagesFrom image pages 0
+Inv-loop image first next starts₀ directory pages p₀ starts p =
+    (pagesFrom image (pages - p) p ≡ pagesFrom image pages 0) × (length starts ≡ 2048)
 
 abbrev μ-loop : tie.MeasureT-loop
-μ-loop image first next directory pages p₀ p = pages - p
+μ-loop image first next starts₀ directory pages p₀ starts p = pages - p
 
 -- The place where the pages have been counted, and the loop is to begin.
 module _ (counted : tie.After-page-count Inv-loop μ-loop) where
@@ -38,7 +39,7 @@ module _ (counted : tie.After-page-count Inv-loop μ-loop) where
 -- The place where a page has been read: the answer is that on the page of the image.
 module _ (read : tie.After-read-page Inv-loop μ-loop) where
   abbrev tested : tie.In-loop Inv-loop μ-loop
-  tested = read .before .before .before .before
+  tested = read .before .before .before .before .before
 
   abbrev before-loop : tie.After-page-count Inv-loop μ-loop
   before-loop = tested .before .before
@@ -49,8 +50,8 @@ module _ (read : tie.After-read-page Inv-loop μ-loop) where
   verdict : (y : Verdict) → read .read-page .result ≡ y → verdictOf (readingOf (image before-loop) p) ≡ y
   verdict y e =
       let directory-is = directory-found before-loop .directory-of .ensures in
-      let page-is = read .before .page-of .ensures in
-      verdict-is (image before-loop) _ _ p _ y directory-is page-is (read .read-page .ensures) e
+      let page-is = read .before .before .before .before .page-of .ensures in
+      verdict-is (image before-loop) _ _ p _ y directory-is page-is (read .read-page .ensures .0) e
 
 directory-of-requires : tie.Need-directory-of-requires Inv-loop μ-loop
 directory-of-requires c κs = search needs
@@ -73,10 +74,13 @@ page-count-requires : tie.Need-page-count-requires Inv-loop μ-loop
 page-count-requires c κs = search needs
 
 loop-holds : tie.Need-loop-holds Inv-loop μ-loop
-loop-holds c = ap (λ n. pagesFrom (image c) n 0) (sub-zero _)
+loop-holds c = (ap (λ n. pagesFrom (image c) n 0) (sub-zero _), refl)
 
 cast-page : tie.Need-cast-page Inv-loop μ-loop
 cast-page c = search needs
+
+page-of-requires : tie.Need-page-of-requires Inv-loop μ-loop
+page-of-requires c κs = search needs
 
 slice-aggregate-read-page : tie.Need-slice-aggregate-read-page Inv-loop μ-loop
 slice-aggregate-read-page c = search needs
@@ -84,11 +88,11 @@ slice-aggregate-read-page c = search needs
 slice-aggregate-read-page-2 : tie.Need-slice-aggregate-read-page-2 Inv-loop μ-loop
 slice-aggregate-read-page-2 c = search needs
 
-page-of-requires : tie.Need-page-of-requires Inv-loop μ-loop
-page-of-requires c κs = search needs
+slice-aggregate-read-page-3 : tie.Need-slice-aggregate-read-page-3 Inv-loop μ-loop
+slice-aggregate-read-page-3 c = search needs
 
 read-page-requires : tie.Need-read-page-requires Inv-loop μ-loop
-read-page-requires c κs = c .before .before .before .before .before .before .before .before .thread .ensures
+read-page-requires c κs = c .before .before .before .before .before .before .before .before .before .thread .ensures
 
 enum-told : tie.Need-enum-told Inv-loop μ-loop
 enum-told c = search needs
@@ -98,13 +102,13 @@ enum-known-number c = search needs
 
 returns : tie.Need-returns Inv-loop μ-loop
 returns c =
-    let read = c .before .before .before in
+    let read = c .before .before .before .before in
     let counted = before-loop read in
     let fault = c .before .number .given in
     let bad = verdict read _ (fault .1) in
     let left = tested read .loop-test .taken in
     pages-bad (image counted) (p read) (pages counted) (fault .0 .0) (fault .0 .1 .0) left bad ∙
-    tested read .before .loop .inv ∙
+    tested read .before .loop .inv .0 ∙
     all-pages counted
 
 add-p : tie.Need-add-p Inv-loop μ-loop
@@ -115,17 +119,19 @@ loop-less c = omega arith
 
 loop-again : tie.Need-loop-again Inv-loop μ-loop
 loop-again c =
-    let read = c .before .before in
+    let read = c .before .before .before in
     let counted = before-loop read in
-    let good = verdict read _ (c .enum-told .given .1) in
-    pages-on (image counted) (p read) (pages counted) (tested read .loop-test .taken) good ∙
-    tested read .before .loop .inv
+    let good = verdict read _ (c .enum-told .given .1) in (
+      pages-on (image counted) (p read) (pages counted) (tested read .loop-test .taken) good ∙
+          tested read .before .loop .inv .0,
+      search needs,
+    )
 
 returns-2 : tie.Need-returns-2 Inv-loop μ-loop
 returns-2 c =
     let counted = c .before .before in
     let loop = c .before .loop in
-    pages-end (image counted) (loop .p) (pages counted) (c .loop-test .left) ∙ loop .inv ∙ all-pages counted
+    pages-end (image counted) (loop .p) (pages counted) (c .loop-test .left) ∙ loop .inv .0 ∙ all-pages counted
 
 pub check-pages-spec : {M : Type 1} → statement M
 check-pages-spec =
@@ -140,9 +146,10 @@ check-pages-spec =
     page-count-requires
     loop-holds
     cast-page
+    page-of-requires
     slice-aggregate-read-page
     slice-aggregate-read-page-2
-    page-of-requires
+    slice-aggregate-read-page-3
     read-page-requires
     enum-told
     enum-known-number

@@ -1,4 +1,4 @@
--- The loop's invariant: best is the choice among the page's stations below v, and v is the page's next station
+-- The loop's invariant: `least` names the choice among the page's stations below v, and v is the page's next station
 -- (`Scanned`). The thread gives the next station, which is further on, so the loop ends.
 use Prim.Native.Nat.{_-_}
 use native.Mathlib.Omega.{arith}
@@ -10,18 +10,16 @@ use Rattle.relax.proofs.through.choose_on.Statement.{statement}
 use Rattle.relax.proofs.through.choose_on.Tie as tie
 
 abbrev Inv-loop : tie.InvT-loop
-Inv-loop directory first next p times marks size best₀ v₀ best v = Scanned directory p times marks best v
+Inv-loop directory first next p times marks size least₀ v₀ least v = Scanned directory p times marks least v
 
 abbrev μ-loop : tie.MeasureT-loop
-μ-loop directory first next p times marks size best₀ v₀ best v = length directory - v
+μ-loop directory first next p times marks size least₀ v₀ least v = length directory - v
 
 mul-v : tie.Need-mul-v Inv-loop μ-loop
 mul-v c = omega (arith, c .before .before .before .before .before .fits .p)
 
 shared-slice-read-v : tie.Need-shared-slice-read-v Inv-loop μ-loop
-shared-slice-read-v c =
-    let entry = c .before .before .before .before .before .before in
-    omega (arith, entry .pre .pages, entry .fits .p)
+shared-slice-read-v c = let entry = c .before .before .before .before .before .before in omega (arith, entry .pre .1 .pages, entry .fits .p)
 
 cast-v : tie.Need-cast-v Inv-loop μ-loop
 cast-v c = omega (arith, c .shared-slice-known6 .given (c .before .before .before .before .before .before .args .p))
@@ -31,18 +29,16 @@ loop-holds c =
     let entry = c .before .before .before .before .before .before in
     let a = entry .args in
     scanned-start (now (a .directory)) (a .p) (now (a .times)) (now (a .marks)) (now (a .first)) (now (a .next))
-    (entry .pre) (omega (arith, entry .fits .p))
+    (entry .pre .1) (entry .pre .0) (omega (arith, entry .fits .p))
 
 considered-requires : tie.Need-considered-requires Inv-loop μ-loop
-considered-requires c κs = search needs
+considered-requires c κs = let entry = c .before .before .before .before .before .before .before .before in omega (arith, entry .pre .0, c .loop-test .taken)
 
 mul-v-2 : tie.Need-mul-v-2 Inv-loop μ-loop
 mul-v-2 c = omega arith
 
 shared-slice-read-v-2 : tie.Need-shared-slice-read-v-2 Inv-loop μ-loop
-shared-slice-read-v-2 c =
-    let entry = c .before .before .before .before .before .before .before .before .before .before in
-    omega (arith, entry .pre .stations)
+shared-slice-read-v-2 c = let entry = c .before .before .before .before .before .before .before .before .before .before in omega (arith, entry .pre .1 .stations)
 
 cast-v-2 : tie.Need-cast-v-2 Inv-loop μ-loop
 cast-v-2 c = omega (arith, c .shared-slice-known7 .given (c .before .before .before .loop .v))
@@ -55,7 +51,7 @@ loop-less c =
     omega (
       arith,
       next-rises (now (a .directory)) (a .p) (now (a .times)) (now (a .marks)) (now (a .first)) (now (a .next))
-          (entry .pre) (l .best) (l .v) (l .inv) (c .before .before .loop-test .taken),
+          (entry .pre .1) (entry .pre .0) (l .least) (l .v) (l .inv) (c .before .before .loop-test .taken),
     )
 
 loop-again : tie.Need-loop-again Inv-loop μ-loop
@@ -64,16 +60,19 @@ loop-again c =
     let a = entry .args in
     let l = c .before .before .before .loop in
     scanned-on (now (a .directory)) (a .p) (now (a .times)) (now (a .marks)) (now (a .first)) (now (a .next))
-    (entry .pre) (l .best) _ (l .v) (l .inv) (c .before .before .loop-test .taken)
+    (entry .pre .1) (entry .pre .0) (l .least) _ (l .v) (l .inv) (c .before .before .loop-test .taken)
     (c .before .considered .ensures)
+
+station-of-requires : tie.Need-station-of-requires Inv-loop μ-loop
+station-of-requires c κs = search needs
 
 returns : tie.Need-returns Inv-loop μ-loop
 returns c =
-    let entry = c .before .before .before .before .before .before .before .before in
+    let entry = c .before .before .before .before .before .before .before .before .before in
     let a = entry .args in
-    let l = c .before .loop in
-    scanned-end (now (a .directory)) (a .p) (now (a .times)) (now (a .marks)) (l .best) (l .v) (l .inv)
-    (c .loop-test .left)
+    let l = c .before .before .loop in
+    scanned-end (now (a .directory)) (a .p) (now (a .times)) (now (a .marks)) (l .least) (l .v) _ (entry .pre .0)
+    (l .inv) (c .before .loop-test .left) (c .station-of .ensures)
 
 pub choose-on-spec : {M : Type 1} → statement M
 choose-on-spec =
@@ -91,4 +90,5 @@ choose-on-spec =
     cast-v-2
     loop-less
     loop-again
+    station-of-requires
     returns)

@@ -37,7 +37,7 @@ choose-on-requires c κs =
     let entry =
     c .before .before .before .before .before .before .before .before .before .before .before .before
     .before in
-    entry .pre .0
+    (omega (arith, entry .pre .1 .0, entry .pre .1 .1 .1 .room), entry .pre .0)
 
 enum-told : tie.Need-enum-told Inv-loop μ-loop
 enum-told c = search needs

@@ -3,8 +3,8 @@ use mathlib.Core.Path.{sym}
 use lib.Seq.{set-out}
 use denote.Ref.{now}
 use borrow.Author.Needs.{needs}
-use Rattle.page.proofs.commands.note.Statement.{statement}
-use Rattle.page.proofs.commands.note.Tie as tie
+use Rattle.page.proofs.reader.note.Statement.{statement}
+use Rattle.page.proofs.reader.note.Tie as tie
 
 mul-starts : tie.Need-mul-starts
 mul-starts c = search needs

@@ -1,0 +1,115 @@
+-- Where a page's fault can stand: within the page or right behind it, so that its offset is 256 at most. By induction
+-- over the commands read, each of which ends within the page.
+use mathlib.Core.Path.{_≡_, refl}
+use mathlib.Core.Bool.{Bool, true, false, not, _||_}
+use mathlib.Core.List.{List}
+use Prim.Native.Nat.{ℕ, zero, suc, _+_, _*_, _≤_}
+use native.Mathlib.Omega.{arith}
+use lib.Dec.{ltb, eqb}
+use lib.ListN.{length, drop, length-take}
+use Rattle.page.specs.declared.Move.{Move}
+use Rattle.page.specs.declared.Command.{Command}
+use Rattle.page.specs.declared.Command.the-variants.{End, Station, MoveTo, Fault}
+use Rattle.page.specs.Bytes.{pick}
+use Rattle.page.specs.Image.{Outcome, accepted, refused, nowhere, at-station, on-page, headingCheck}
+use Rattle.page.specs.Image.{stationCount, pageCount, directoryOf, pageBytes, firstNotBelow}
+use Rattle.page.specs.Reading.{Reading, good, bad, withMove, withStation, nextOn, judgedAt, readFrom, readPage}
+use Rattle.page.specs.Check.{readingOf, pageOutcome, pagesFrom, afterHeading, wholeCheck}
+use Rattle.page.proofs.Lengths.{Within, judged-within}
+
+-- A reading whose fault, if it has one, stands at an offset up to a limit.
+abbrev pub FaultBy : ℕ → Reading → Type 0
+FaultBy limit (good moves stations) = Unit {0}
+FaultBy limit (bad number offset) = offset ≤ limit
+
+module _ (directory : List ℕ) (p : ℕ) (page : List ℕ) where
+  abbrev In : Reading → Type 0
+  In = FaultBy (length page)
+
+  after-station : (v : ℕ) (r : Reading) → In r → In (withStation v r)
+  after-station v (good moves stations) k = tt
+  after-station v (bad number offset) k = k
+
+  after-move : (m : Move) (r : Reading) → In r → In (withMove m r)
+  after-move m (good moves stations) k = tt
+  after-move m (bad number offset) k = k
+
+  command-in : (f at after least : ℕ) → at ≤ length page → (x : Command)
+      → judgedAt page at (length directory) (nextOn directory p after) after least ≡ x → Within at (length page) x
+      → ((i a l : ℕ) → i ≤ length page → In (readFrom directory p page f i a l))
+      → In (readFrom directory p page (suc f) at after least)
+  unfolding readFrom
+  command-in f at after least h End e w ih = rw (e, readFrom) tt
+  command-in f at after least h (Station v) e w ih =
+      let following = readFrom directory p page f (at + 3) (v + 1) 0 in
+      rw (e, readFrom) (after-station v following (ih (at + 3) (v + 1) 0 w))
+  command-in f at after least h (MoveTo m) e w ih =
+      let following = readFrom directory p page f (at + 5) after (m .target + 1) in
+      rw (e, readFrom) (after-move m following (ih (at + 5) after (m .target + 1) w))
+  command-in f at after least h (Fault number) e w ih = rw (e, readFrom) h
+
+  read-in : (f at after least : ℕ) → at ≤ length page → In (readFrom directory p page f at after least)
+  unfolding readFrom
+  read-in zero at after least h = h
+  read-in (suc f) at after least h =
+      let due = nextOn directory p after in
+      command-in f at after least h (judgedAt page at (length directory) due after least) refl
+      (judged-within page at (length directory) due after least) (read-in f)
+
+  page-in : In (readPage directory p page)
+  unfolding readPage
+  page-in = read-in (suc (length page)) 0 0 0 (omega arith)
+
+-- An outcome whose offset, if it names one, is 256 at most.
+abbrev pub PlaceBy256 : Outcome → Type 0
+PlaceBy256 accepted = Unit {0}
+PlaceBy256 (refused number nowhere) = Unit {0}
+PlaceBy256 (refused number (at-station station)) = Unit {0}
+PlaceBy256 (refused number (on-page p offset)) = offset ≤ 256
+
+either : (b : Bool) (x y : Outcome) → PlaceBy256 x → PlaceBy256 y → PlaceBy256 (pick b x y)
+either true x y k l = k
+either false x y k l = l
+
+module _ (image : List ℕ) where
+  lower-limit : (n m : ℕ) (r : Reading) → n ≤ m → FaultBy n r → FaultBy m r
+  lower-limit n m (good moves stations) h k = tt
+  lower-limit n m (bad number offset) h k = omega arith
+
+  pub reading-by-256 : (p : ℕ) → FaultBy 256 (readingOf image p)
+  unfolding readingOf pageBytes
+  reading-by-256 p =
+      let from = 4 + stationCount image + 256 * p in
+      let short : length (pageBytes image p) ≤ 256 = omega (arith, length-take 256 (drop from image)) in
+      lower-limit (length (pageBytes image p)) 256 (readingOf image p) short
+      (page-in (directoryOf image) p (pageBytes image p))
+
+  pub heading-by-256 : PlaceBy256 (headingCheck image)
+  unfolding headingCheck
+  heading-by-256 =
+      either (ltb (length image) 4) _ _ tt
+      (either (eqb (stationCount image) 0 || ltb 2048 (stationCount image)) _ _ tt
+      (either (eqb (pageCount image) 0 || ltb 240 (pageCount image)) _ _ tt
+      (either (not (eqb (length image) (4 + stationCount image + 256 * pageCount image))) _ _ tt
+      (either (ltb (firstNotBelow (pageCount image) (directoryOf image)) (stationCount image)) _ _ tt tt))))
+
+  page-by-256 : (p : ℕ) (r : Reading) (following : Outcome) → FaultBy 256 r → PlaceBy256 following
+      → PlaceBy256 (pageOutcome p r following)
+  page-by-256 p (good moves stations) following k l = l
+  page-by-256 p (bad number offset) following k l = k
+
+  pages-by-256 : (count p : ℕ) → PlaceBy256 (pagesFrom image count p)
+  unfolding pagesFrom
+  pages-by-256 zero p = tt
+  pages-by-256 (suc count) p =
+      page-by-256 p (readingOf image p) (pagesFrom image count (suc p)) (reading-by-256 p) (pages-by-256 count (suc p))
+
+  behind-heading : (o following : Outcome) → PlaceBy256 o → PlaceBy256 following → PlaceBy256 (afterHeading o following)
+  behind-heading accepted following k l = l
+  behind-heading (refused number place) following k l = k
+
+  pub whole-by-256 : PlaceBy256 (wholeCheck image)
+  unfolding wholeCheck
+  whole-by-256 =
+      behind-heading (headingCheck image) (pagesFrom image (pageCount image) 0) heading-by-256
+      (pages-by-256 (pageCount image) 0)

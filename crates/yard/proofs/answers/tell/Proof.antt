@@ -1,0 +1,71 @@
+-- A short answer stays as it is; a longer one has its first four entries set one by one (proofs/Four.antt).
+use native.Mathlib.Omega.{arith}
+use lib.ListN.{set, length-set}
+use denote.Ref.{now}
+use Rattle.yard.proofs.Four.{put-short, put-four}
+use borrow.Author.Needs.{needs}
+use Rattle.yard.proofs.answers.tell.Statement.{statement}
+use Rattle.yard.proofs.answers.tell.Tie as tie
+
+cast-result : tie.Need-cast-result
+cast-result c = search needs
+
+returns : tie.Need-returns
+returns c = put-short (c .before .before .args .n) (now (c .before .before .args .answer)) (c .before .if1 .taken)
+
+cast-answer : tie.Need-cast-answer
+cast-answer c = search needs
+
+slice-write-answer : tie.Need-slice-write-answer
+slice-write-answer c = search needs
+
+cast-answer-2 : tie.Need-cast-answer-2
+cast-answer-2 c = search needs
+
+slice-write-answer-2 : tie.Need-slice-write-answer-2
+slice-write-answer-2 c =
+    let l = now (c .before .before .before .args .answer) in
+    omega (arith, length-set l 0 (c .before .before .before .args .n .count), c .before .before .if1 .left)
+
+cast-answer-3 : tie.Need-cast-answer-3
+cast-answer-3 c = search needs
+
+slice-write-answer-3 : tie.Need-slice-write-answer-3
+slice-write-answer-3 c =
+    let a = c .before .before .before .before .args in
+    let l = now (a .answer) in
+    omega (arith, length-set l 0 (a .n .count), length-set (set l 0 (a .n .count)) 1 (a .n .reached), c .before .before .before .if1 .left)
+
+cast-answer-4 : tie.Need-cast-answer-4
+cast-answer-4 c = search needs
+
+slice-write-answer-4 : tie.Need-slice-write-answer-4
+slice-write-answer-4 c = search needs
+
+cast-result-2 : tie.Need-cast-result-2
+cast-result-2 c = search needs
+
+same-length : tie.Need-same-length
+same-length c = search needs
+
+returns-2 : tie.Need-returns-2
+returns-2 c =
+    let if1 = c .before .before .before .before .before in put-four (if1 .before .args .n) (now (if1 .before .args .answer)) (if1 .if1 .left)
+
+pub tell-spec : {M : Type 1} → statement M
+tell-spec =
+    tie.close
+    (tie.spec
+    cast-result
+    returns
+    cast-answer
+    slice-write-answer
+    cast-answer-2
+    slice-write-answer-2
+    cast-answer-3
+    slice-write-answer-3
+    cast-answer-4
+    slice-write-answer-4
+    cast-result-2
+    same-length
+    returns-2)

@@ -1,0 +1,42 @@
+-- The numbers are those of the check's outcome, and small; `tell` puts them into the answer.
+use mathlib.Core.Path.{_≡_, sym, ap, _∙_, subst}
+use mathlib.Core.List.{List}
+use Prim.Native.Nat.{ℕ}
+use denote.Ref.{now}
+use Rattle.page.specs.Check.{wholeCheck}
+use Rattle.yard.specs.Numbers.{toldBy, ofCheck, Small}
+use Rattle.yard.proofs.Small.{small-check}
+use borrow.Author.Needs.{needs}
+use Rattle.yard.proofs.yard_check.Statement.{statement}
+use Rattle.yard.proofs.yard_check.Tie as tie
+
+-- The place where the outcome has its numbers.
+module _ (here : tie.After-of-check) where
+  abbrev entry : tie.Start
+  entry = here .before .before .before .before
+
+  abbrev image : List ℕ
+  image = now (entry .args .image)
+
+  numbered : here .of-check .result ≡ ofCheck (wholeCheck image)
+  numbered = here .of-check .ensures ∙ ap ofCheck (here .before .check .ensures)
+
+check-requires : tie.Need-check-requires
+check-requires c κs = search needs
+
+of-check-requires : tie.Need-of-check-requires
+of-check-requires c κs = search needs
+
+tell-requires : tie.Need-tell-requires
+tell-requires c κs = subst Small (sym (numbered (c .before))) (small-check (image (c .before)))
+
+same-length : tie.Need-same-length
+same-length c = search needs
+
+returns : tie.Need-returns
+returns c =
+    let told = c .before .before in told .tell .ensures ∙ ap (λ n. toldBy n (now (entry (told .before .before) .args .answer))) (numbered (told .before .before))
+
+pub yard-check-spec : {M : Type 1} → statement M
+yard-check-spec =
+    tie.close (tie.spec check-requires of-check-requires tell-requires same-length returns)

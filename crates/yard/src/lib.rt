@@ -1,0 +1,99 @@
+// The C interface (include/yard.h): each call of the engine as a C function. A slice passes as a pointer and a length in
+// entries. What a call answers becomes its status and the four numbers of `answer` (specs/Numbers.antt); what it does to
+// the lent tables is what the engine's call does.
+
+ghost use mathlib.Core.Path.{_≡_};
+ghost use Rattle.net.specs.Search.{plainSearch, dfSearch};
+ghost use Rattle.page.specs.Check.{wholeCheck};
+ghost use Rattle.route.specs.Route.{routeCall};
+ghost use Rattle.search.specs.Reply.{lent, searched};
+ghost use Rattle.yard.specs.Numbers.{told, toldBy, ofCheck, ofSearch, ofRoute};
+use answers::of_check;
+use answers::of_route;
+use answers::of_search;
+use answers::tell;
+
+mod answers;
+
+// A call's status and its four numbers. `place` is the page or, for refusal 5, the station.
+pub struct Numbers {
+    pub status: u8,
+    pub count: usize,
+    pub reached: usize,
+    pub place: u16,
+    pub offset: usize,
+}
+
+// The whole check of a map.
+#[no_mangle]
+pub extern "C" fn yard_check(image: &[u8], answer: &mut [u32]) -> u32
+    ensures outcome { λ r. ⌜
+        told r (now (answer .exit)) ≡ toldBy (ofCheck (wholeCheck (now (image .entry)))) (now (answer .entry)) ⌝ }
+{
+    tell(of_check(page::whole::check(image)), answer)
+}
+
+// The plain search: Dijkstra's.
+#[no_mangle]
+pub extern "C" fn yard_plain(
+    image: &[u8],
+    source: u16,
+    times: &mut [u32],
+    preds: &mut [u16],
+    marks: &mut [u8],
+    list: &mut [u8],
+    answer: &mut [u32],
+) -> u32
+    ensures outcome { λ r. ⌜
+        told r (now (answer .exit)) ≡ toldBy (ofSearch ((searched plainSearch (now (image .entry)) source
+        (lent (now (times .entry)) (now (preds .entry)) (now (marks .entry)) (now (list .entry)))) .reply))
+        (now (answer .entry)) ⌝ }
+    ensures tables { λ r. ⌜
+        lent (now (times .exit)) (now (preds .exit)) (now (marks .exit)) (now (list .exit)) ≡
+        (searched plainSearch (now (image .entry)) source
+        (lent (now (times .entry)) (now (preds .entry)) (now (marks .entry)) (now (list .entry)))) .tables ⌝ }
+{
+    let told = search::calls::plain(image, source, times, preds, marks, list);
+    tell(of_search(told), answer)
+}
+
+// The DF search.
+#[no_mangle]
+pub extern "C" fn yard_df(
+    image: &[u8],
+    source: u16,
+    times: &mut [u32],
+    preds: &mut [u16],
+    marks: &mut [u8],
+    list: &mut [u8],
+    answer: &mut [u32],
+) -> u32
+    ensures outcome { λ r. ⌜
+        told r (now (answer .exit)) ≡ toldBy (ofSearch ((searched dfSearch (now (image .entry)) source
+        (lent (now (times .entry)) (now (preds .entry)) (now (marks .entry)) (now (list .entry)))) .reply))
+        (now (answer .entry)) ⌝ }
+    ensures tables { λ r. ⌜
+        lent (now (times .exit)) (now (preds .exit)) (now (marks .exit)) (now (list .exit)) ≡
+        (searched dfSearch (now (image .entry)) source
+        (lent (now (times .entry)) (now (preds .entry)) (now (marks .entry)) (now (list .entry)))) .tables ⌝ }
+{
+    let told = search::calls::df(image, source, times, preds, marks, list);
+    tell(of_search(told), answer)
+}
+
+// The stations from the source to a station, by the predecessors that a search left.
+#[no_mangle]
+pub extern "C" fn yard_route(
+    preds: &[u16],
+    station: u16,
+    out: &mut [u16],
+    answer: &mut [u32],
+) -> u32
+    ensures outcome { λ r. ⌜
+        told r (now (answer .exit)) ≡
+        toldBy (ofRoute ((routeCall (now (preds .entry)) station (now (out .entry))) .answer)) (now (answer .entry)) ⌝ }
+    ensures output { λ r. ⌜
+        now (out .exit) ≡ (routeCall (now (preds .entry)) station (now (out .entry))) .output ⌝ }
+{
+    tell(of_route(route::route(preds, station, out)), answer)
+}
