@@ -1,0 +1,127 @@
+//! Maps as one draws them, and their bytes. `good` draws maps, `damage` spoils them, `cases` makes the cases of the
+//! fuzzer of both.
+
+pub mod cases;
+pub mod damage;
+pub mod good;
+
+use std::collections::BTreeMap;
+
+pub const PAGE_BYTES: usize = 256;
+pub const MOST_STATIONS: usize = 2048;
+pub const MOST_PAGES: usize = 240;
+/// As many stations fit on a page that has no moves: 85 times 3 bytes, and the end.
+pub const MOST_ON_A_PAGE: usize = 85;
+
+/// One command of a page.
+#[derive(Clone, Copy, Debug, PartialEq, Eq)]
+pub enum Command {
+    End,
+    Station(u16),
+    Move(u16, u16),
+}
+
+impl Command {
+    pub fn length(self) -> usize {
+        match self {
+            Command::End => 1,
+            Command::Station(_) => 3,
+            Command::Move(..) => 5,
+        }
+    }
+
+    fn write(self, bytes: &mut Vec<u8>) {
+        match self {
+            Command::End => bytes.push(0),
+            Command::Station(number) => {
+                bytes.push(1);
+                bytes.extend(number.to_le_bytes());
+            }
+            Command::Move(target, time) => {
+                bytes.push(2);
+                bytes.extend(target.to_le_bytes());
+                bytes.extend(time.to_le_bytes());
+            }
+        }
+    }
+}
+
+/// A page's bytes: its commands and zeros, cut at the page's end.
+pub fn page_bytes(commands: &[Command]) -> Vec<u8> {
+    let mut bytes = Vec::with_capacity(PAGE_BYTES + 5);
+    for command in commands {
+        command.write(&mut bytes);
+    }
+    bytes.resize(PAGE_BYTES, 0);
+    bytes
+}
+
+/// A map: for each station its page and its moves (target and time). `add` keeps every page within its 256 bytes.
+pub struct Map {
+    pub pages: usize,
+    pub directory: Vec<u8>,
+    pub moves: Vec<BTreeMap<u16, u16>>,
+    room: Vec<usize>,
+}
+
+impl Map {
+    /// A map without moves. No page may have more than 85 stations.
+    pub fn new(pages: usize, directory: Vec<u8>) -> Self {
+        let mut room = vec![PAGE_BYTES - Command::End.length(); pages];
+        for &page in &directory {
+            room[usize::from(page)] -= Command::Station(0).length();
+        }
+        let moves = vec![BTreeMap::new(); directory.len()];
+        Map { pages, directory, moves, room }
+    }
+
+    pub fn stations(&self) -> usize {
+        self.directory.len()
+    }
+
+    /// Adds a move if it is one, is new and finds room on its page.
+    pub fn add(&mut self, from: usize, target: usize, time: u16) -> bool {
+        let room = &mut self.room[usize::from(self.directory[from])];
+        let length = Command::Move(0, 0).length();
+        if from == target || *room < length || self.moves[from].contains_key(&(target as u16)) {
+            return false;
+        }
+        *room -= length;
+        self.moves[from].insert(target as u16, time);
+        true
+    }
+
+    /// The stations of a page, rising.
+    pub fn stations_of(&self, page: usize) -> Vec<u16> {
+        let all = self.directory.iter().enumerate();
+        all.filter(|&(_, &its)| usize::from(its) == page).map(|(station, _)| station as u16).collect()
+    }
+
+    pub fn commands(&self, page: usize) -> Vec<Command> {
+        let mut commands = Vec::new();
+        for station in self.stations_of(page) {
+            commands.push(Command::Station(station));
+            let moves = self.moves[usize::from(station)].iter();
+            commands.extend(moves.map(|(&target, &time)| Command::Move(target, time)));
+        }
+        commands.push(Command::End);
+        commands
+    }
+
+    /// Heading and directory.
+    pub fn front(&self) -> Vec<u8> {
+        let mut bytes = Vec::with_capacity(4 + self.stations() + PAGE_BYTES * self.pages);
+        bytes.extend((self.stations() as u16).to_le_bytes());
+        bytes.extend((self.pages as u16).to_le_bytes());
+        bytes.extend(&self.directory);
+        bytes
+    }
+
+    pub fn image(&self) -> Vec<u8> {
+        let mut bytes = self.front();
+        for page in 0..self.pages {
+            bytes.extend(page_bytes(&self.commands(page)));
+        }
+        bytes
+    }
+}

@@ -1,0 +1,170 @@
+//! Good maps of many shapes: small and full, with many equal sums, with pages that are entered again and again, chains,
+//! stations without moves, pages without stations, times of 1 and of 65,535.
+
+use super::{Map, MOST_ON_A_PAGE, MOST_PAGES, MOST_STATIONS};
+use crate::random::Random;
+
+/// How stations lie on pages.
+#[derive(Clone, Copy)]
+enum Layout {
+    Blocks,
+    RoundRobin,
+    Scattered,
+    FewPages,
+}
+
+/// Where moves lead.
+#[derive(Clone, Copy)]
+enum Reach {
+    Any,
+    Near,
+    Forward,
+    Back,
+    SamePage,
+    OtherPage,
+    Hub,
+}
+
+/// What moves take.
+#[derive(Clone, Copy)]
+enum Pace {
+    One,
+    Most,
+    Small,
+    Wide,
+    /// As far as the numbers differ: every way that does not turn back takes the same time.
+    Distance,
+    /// The square of that: many short moves are quicker than a long one, so times fall again and again.
+    Square,
+}
+
+/// Chains laid before any other move.
+#[derive(Clone, Copy)]
+enum Chain {
+    None,
+    Up,
+    Down,
+    Ring,
+}
+
+const LAYOUTS: [Layout; 4] = [Layout::Blocks, Layout::RoundRobin, Layout::Scattered, Layout::FewPages];
+const REACHES: [Reach; 7] =
+    [Reach::Any, Reach::Near, Reach::Forward, Reach::Back, Reach::SamePage, Reach::OtherPage, Reach::Hub];
+const PACES: [Pace; 6] = [Pace::One, Pace::Most, Pace::Small, Pace::Wide, Pace::Distance, Pace::Square];
+const CHAINS: [Chain; 5] = [Chain::None, Chain::None, Chain::Up, Chain::Down, Chain::Ring];
+
+/// A good map of any shape.
+pub fn draw(random: &mut Random) -> Map {
+    let (stations, pages) = size(random);
+    let mut map = Map::new(pages, directory(random, stations, pages));
+    let pace = random.pick(&PACES);
+    lay_chain(&mut map, random, pace);
+    scatter_moves(&mut map, random, pace);
+    map
+}
+
+/// Mostly small, so that many cases are tried; the largest size of all now and then.
+fn size(random: &mut Random) -> (usize, usize) {
+    let (most_stations, most_pages) = match random.below(200) {
+        0 => return (MOST_STATIONS, MOST_PAGES),
+        1 => (MOST_STATIONS, MOST_PAGES),
+        2..=9 => (500, 120),
+        10..=49 => (120, 30),
+        50..=119 => (24, 8),
+        _ => (9, 4),
+    };
+    let stations = random.from_to(1, most_stations);
+    let fewest_pages = stations.div_ceil(MOST_ON_A_PAGE);
+    (stations, random.from_to(fewest_pages, most_pages.max(fewest_pages)))
+}
+
+fn directory(random: &mut Random, stations: usize, pages: usize) -> Vec<u8> {
+    let layout = random.pick(&LAYOUTS);
+    let few = random.from_to(stations.div_ceil(MOST_ON_A_PAGE), pages);
+    let mut on_page = vec![0; pages];
+    let mut directory = Vec::with_capacity(stations);
+    for station in 0..stations {
+        let mut page = match layout {
+            Layout::Blocks => station * pages / stations,
+            Layout::RoundRobin => station % pages,
+            Layout::Scattered => random.below(pages),
+            Layout::FewPages => random.below(few),
+        };
+        while on_page[page] == MOST_ON_A_PAGE {
+            page = (page + 1) % pages;
+        }
+        on_page[page] += 1;
+        directory.push(page as u8);
+    }
+    directory
+}
+
+fn lay_chain(map: &mut Map, random: &mut Random, pace: Pace) {
+    let chain = random.pick(&CHAINS);
+    let stations = map.stations();
+    for station in 1..stations {
+        let (from, target) = match chain {
+            Chain::None => return,
+            Chain::Up | Chain::Ring => (station - 1, station),
+            Chain::Down => (station, station - 1),
+        };
+        let time = time(random, pace, from, target);
+        map.add(from, target, time);
+    }
+    if let Chain::Ring = chain {
+        let time = time(random, pace, stations - 1, 0);
+        map.add(stations - 1, 0, time);
+    }
+}
+
+fn scatter_moves(map: &mut Map, random: &mut Random, pace: Pace) {
+    let stations = map.stations();
+    // From next to none to as many as the pages hold; two kinds of moves in one map.
+    let tries = stations * random.pick(&[0, 1, 1, 2, 3, 6, 20]) / random.from_to(1, 2);
+    let reaches = [random.pick(&REACHES), random.pick(&REACHES)];
+    for _ in 0..tries {
+        let from = random.below(stations);
+        let reach = random.pick(&reaches);
+        let target = target(map, random, reach, from);
+        let time = time(random, pace, from, target);
+        map.add(from, target, time);
+    }
+}
+
+fn target(map: &Map, random: &mut Random, reach: Reach, from: usize) -> usize {
+    let stations = map.stations();
+    match reach {
+        Reach::Any => random.below(stations),
+        Reach::Near => (from + random.below(9)).saturating_sub(4).min(stations - 1),
+        Reach::Forward => random.from_to(from, stations - 1),
+        Reach::Back => random.from_to(0, from),
+        Reach::SamePage => look_for(map, random, |page| page == map.directory[from]),
+        Reach::OtherPage => look_for(map, random, |page| page != map.directory[from]),
+        Reach::Hub => random.below(stations.min(3)),
+    }
+}
+
+/// A station on a wanted page, if a few tries find one.
+fn look_for(map: &Map, random: &mut Random, wanted: impl Fn(u8) -> bool) -> usize {
+    let mut station = random.below(map.stations());
+    for _ in 0..6 {
+        if wanted(map.directory[station]) {
+            break;
+        }
+        station = random.below(map.stations());
+    }
+    station
+}
+
+fn time(random: &mut Random, pace: Pace, from: usize, target: usize) -> u16 {
+    let apart = from.abs_diff(target).max(1);
+    let time = match pace {
+        Pace::One => 1,
+        Pace::Most => 65_535,
+        Pace::Small => random.from_to(1, 4),
+        Pace::Wide => random.from_to(1, 65_535),
+        Pace::Distance => apart,
+        Pace::Square => apart * apart,
+    };
+    time.min(65_535) as u16
+}

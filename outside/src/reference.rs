@@ -1,0 +1,54 @@
+//! Document 01 once more, in Rust and from its words alone: the whole check and page reader (`image`), both searches
+//! step by step (`letter`), what a search has to give by an altogether different method (`walks`), the words of
+//! demand 3 (`lists`) and the route (`route`). Slow and plain on purpose: it is there to be read and believed.
+
+pub mod image;
+pub mod letter;
+pub mod lists;
+pub mod route;
+pub mod walks;
+
+/// The time of a station that has none.
+pub const NO_TIME: u32 = 4_294_967_295;
+/// The predecessor of the source.
+pub const SOURCE: u16 = 65_534;
+/// The predecessor of a station that has no time.
+pub const NO_PREDECESSOR: u16 = 65_535;
+
+#[derive(Clone, Copy, Debug, PartialEq, Eq)]
+pub enum Search {
+    Plain,
+    Df,
+}
+
+/// The four tables lent to a search.
+pub struct Tables<'a> {
+    pub times: &'a mut [u32],
+    pub preds: &'a mut [u16],
+    pub marks: &'a mut [u8],
+    pub list: &'a mut [u8],
+}
+
+/// What a call answers: the refusal's number (0 where it accepts) and the numbers that go with it, 0 where they do not
+/// apply. `place` is the page, and for refusal 5 the station.
+#[derive(Clone, Copy, Debug, Default, PartialEq, Eq)]
+pub struct Answer {
+    pub refusal: u32,
+    pub count: u32,
+    pub reached: u32,
+    pub place: u32,
+    pub offset: u32,
+}
+
+impl Answer {
+    pub fn refused(refusal: u32) -> Self {
+        Answer { refusal, ..Answer::default() }
+    }
+
+    /// What the C interface does to a lent answer: its first four entries are written if there are that many.
+    pub fn write(&self, answer: &mut [u32]) {
+        if let Some(front) = answer.get_mut(..4) {
+            front.copy_from_slice(&[self.count, self.reached, self.place, self.offset]);
+        }
+    }
+}

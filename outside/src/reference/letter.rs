@@ -1,0 +1,152 @@
+//! "The two searches" of document 01, by the letter: every choice is a look at all stations, every reference reads the
+//! page anew.
+
+use super::image::{Fault, Image, Station};
+use super::{Answer, Search, Tables, NO_PREDECESSOR, NO_TIME, SOURCE};
+
+/// "Per station the state has a time or none, a predecessor, a settled flag and a fresh flag."
+#[derive(Clone, Copy, Default)]
+struct State {
+    time: Option<u64>,
+    predecessor: Option<u16>,
+    settled: bool,
+    fresh: bool,
+}
+
+struct Run<'a> {
+    image: &'a Image<'a>,
+    states: Vec<State>,
+    list: Vec<u8>,
+}
+
+/// A search that did not accept: the bad page that ended it.
+struct BadPage {
+    page: usize,
+    fault: Fault,
+}
+
+/// The whole call: refusals 1 to 7, the search, and what it leaves in the lent tables.
+pub fn search(kind: Search, image: &[u8], source: u16, tables: Tables) -> Answer {
+    let image = match Image::open(image) {
+        Ok(image) => image,
+        Err(answer) => return answer,
+    };
+    let n = image.stations;
+    if usize::from(source) >= n {
+        return Answer::refused(6);
+    }
+    if [tables.times.len(), tables.preds.len(), tables.marks.len(), tables.list.len()]
+        .iter()
+        .any(|&length| length < n)
+    {
+        return Answer::refused(7);
+    }
+    let mut run = Run::start(&image, source);
+    let ended = run.steps(kind);
+    if ended.is_err() {
+        run.states.fill(State::default());
+    }
+    run.write(source, ended.is_ok(), tables);
+    let count = run.list.len() as u32;
+    match ended {
+        Ok(()) => {
+            let reached = run.states.iter().filter(|state| state.time.is_some()).count() as u32;
+            Answer { count, reached, ..Answer::default() }
+        }
+        Err(BadPage { page, fault: Fault { refusal, offset } }) => {
+            Answer { count, place: page as u32, offset, ..Answer::refused(refusal) }
+        }
+    }
+}
+
+impl<'a> Run<'a> {
+    /// "At the start the source has time 0 and nothing is settled or fresh."
+    fn start(image: &'a Image<'a>, source: u16) -> Self {
+        let mut states = vec![State::default(); image.stations];
+        states[usize::from(source)].time = Some(0);
+        Run { image, states, list: Vec::new() }
+    }
+
+    fn steps(&mut self, kind: Search) -> Result<(), BadPage> {
+        while let Some(station) = self.least(0..self.image.stations, |state| !state.settled) {
+            self.states[station].settled = true;
+            match kind {
+                Search::Plain => self.plain_step(station)?,
+                Search::Df => self.df_step(station)?,
+            }
+        }
+        Ok(())
+    }
+
+    /// The wanted station of least time, then lowest number; none if no wanted one has a time.
+    fn least(&self, among: impl Iterator<Item = usize>, wanted: impl Fn(&State) -> bool) -> Option<usize> {
+        let timed = among.filter(|&station| wanted(&self.states[station]));
+        timed
+            .filter_map(|station| self.states[station].time.map(|time| (time, station)))
+            .min()
+            .map(|(_, station)| station)
+    }
+
+    fn plain_step(&mut self, station: usize) -> Result<(), BadPage> {
+        let content = self.refer(station)?;
+        self.relax_all(station, &content);
+        Ok(())
+    }
+
+    fn df_step(&mut self, station: usize) -> Result<(), BadPage> {
+        if self.states[station].fresh {
+            return Ok(());
+        }
+        let content = self.refer(station)?;
+        self.visit(station, &content);
+        let of_page: Vec<usize> = content.iter().map(|named| usize::from(named.number)).collect();
+        while let Some(next) = self.least(of_page.iter().copied(), |state| !state.fresh) {
+            self.visit(next, &content);
+        }
+        Ok(())
+    }
+
+    /// "Append its page to the list, read the page."
+    fn refer(&mut self, station: usize) -> Result<Vec<Station>, BadPage> {
+        let page = self.image.page_of(station);
+        self.list.push(page as u8);
+        self.image.read(page).map_err(|fault| BadPage { page, fault })
+    }
+
+    fn visit(&mut self, station: usize, content: &[Station]) {
+        self.states[station].fresh = true;
+        self.relax_all(station, content);
+    }
+
+    /// Relaxes the station's moves in page order.
+    fn relax_all(&mut self, station: usize, content: &[Station]) {
+        let named = content.iter().find(|named| usize::from(named.number) == station);
+        for step in &named.expect("a good page names each of its stations").moves {
+            self.relax(station, usize::from(step.target), u64::from(step.time));
+        }
+    }
+
+    fn relax(&mut self, from: usize, target: usize, time: u64) {
+        let sum = self.states[from].time.expect("only a station with a time is relaxed from") + time;
+        let from = from as u16;
+        let state = &mut self.states[target];
+        if state.time.is_none_or(|before| sum < before) {
+            *state = State { time: Some(sum), predecessor: Some(from), fresh: false, ..*state };
+        } else if state.time == Some(sum) && state.predecessor.is_some_and(|before| from < before) {
+            state.predecessor = Some(from);
+        }
+    }
+
+    /// Writes the first N entries of times, predecessors and marks, and the list's count entries; no others.
+    fn write(&self, source: u16, accepted: bool, tables: Tables) {
+        for (station, state) in self.states.iter().enumerate() {
+            tables.times[station] = state.time.map_or(NO_TIME, |time| time as u32);
+            tables.preds[station] = state.predecessor.unwrap_or(NO_PREDECESSOR);
+            tables.marks[station] = 0;
+        }
+        if accepted {
+            tables.preds[usize::from(source)] = SOURCE;
+        }
+        tables.list[..self.list.len()].copy_from_slice(&self.list);
+    }
+}

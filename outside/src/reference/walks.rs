@@ -1,0 +1,106 @@
+//! What a search has to give, by a method that has no steps in common with it: Bellman and Ford's rounds over all
+//! moves of the good pages give the least times over "walks that leave only stations on good pages"; predecessors,
+//! refused page and Dijkstra's list are then read off the times.
+
+use super::image::{Fault, Image, Station};
+use super::{NO_PREDECESSOR, NO_TIME, SOURCE};
+
+/// A move of the map, with the station it leaves.
+#[derive(Clone, Copy)]
+pub struct Leg {
+    pub from: u16,
+    pub target: u16,
+    pub time: u16,
+}
+
+/// The bad page that ends both searches.
+#[derive(Clone, Copy, Debug, PartialEq, Eq)]
+pub struct RefusedPage {
+    pub page: usize,
+    pub fault: Fault,
+}
+
+pub struct Truth {
+    pub times: Vec<u32>,
+    pub preds: Vec<u16>,
+    pub reached: usize,
+    pub refused: Option<RefusedPage>,
+    pub plain_list: Vec<u8>,
+}
+
+/// Every page of an image as reading it ends.
+pub type Pages = Vec<Result<Vec<Station>, Fault>>;
+
+pub fn read_all(image: &Image) -> Pages {
+    (0..image.pages).map(|page| image.read(page)).collect()
+}
+
+/// The moves of all good pages.
+pub fn legs(pages: &Pages) -> Vec<Leg> {
+    let stations = pages.iter().flatten().flatten();
+    stations
+        .flat_map(|station| station.moves.iter().map(|step| leg(station.number, step.target, step.time)))
+        .collect()
+}
+
+fn leg(from: u16, target: u16, time: u16) -> Leg {
+    Leg { from, target, time }
+}
+
+pub fn truth(image: &Image, pages: &Pages, source: u16) -> Truth {
+    let legs = legs(pages);
+    let times = least_times(image.stations, &legs, source);
+    let mut order: Vec<usize> = (0..image.stations).filter(|&station| times[station].is_some()).collect();
+    order.sort_by_key(|&station| (times[station], station));
+    let first_bad = order.iter().position(|&station| pages[image.page_of(station)].is_err());
+    // Both searches settle by (least time, number), and the first station on a bad page is the last they refer for.
+    let settled = &order[..first_bad.map_or(order.len(), |at| at + 1)];
+    let plain_list = settled.iter().map(|&station| image.directory[station]).collect();
+    let refused = first_bad.and_then(|at| {
+        let page = image.page_of(order[at]);
+        pages[page].as_ref().err().map(|&fault| RefusedPage { page, fault })
+    });
+    if refused.is_some() {
+        let (times, preds) = (vec![NO_TIME; image.stations], vec![NO_PREDECESSOR; image.stations]);
+        return Truth { times, preds, reached: 0, refused, plain_list };
+    }
+    let preds = lowest_predecessors(&times, &legs, source);
+    let reached = order.len();
+    let times = times.iter().map(|time| time.map_or(NO_TIME, |time| time as u32)).collect();
+    Truth { times, preds, reached, refused, plain_list }
+}
+
+/// Rounds over all moves until none lowers a time.
+fn least_times(stations: usize, legs: &[Leg], source: u16) -> Vec<Option<u64>> {
+    let mut times = vec![None; stations];
+    times[usize::from(source)] = Some(0);
+    loop {
+        let mut lowered = false;
+        for leg in legs {
+            let Some(time) = times[usize::from(leg.from)] else { continue };
+            let sum: u64 = time + u64::from(leg.time);
+            let target = &mut times[usize::from(leg.target)];
+            if target.is_none_or(|before| sum < before) {
+                *target = Some(sum);
+                lowered = true;
+            }
+        }
+        if !lowered {
+            return times;
+        }
+    }
+}
+
+/// "Otherwise the lowest station whose time plus move gives v's time."
+fn lowest_predecessors(times: &[Option<u64>], legs: &[Leg], source: u16) -> Vec<u16> {
+    let mut preds = vec![NO_PREDECESSOR; times.len()];
+    for leg in legs {
+        let sum = times[usize::from(leg.from)].map(|time| time + u64::from(leg.time));
+        let target = usize::from(leg.target);
+        if sum.is_some() && sum == times[target] {
+            preds[target] = preds[target].min(leg.from);
+        }
+    }
+    preds[usize::from(source)] = SOURCE;
+    preds
+}
