@@ -1,0 +1,199 @@
+//! The examples that document 01 prints with their answers: the table of refusals, course cases C1 to C10 and the
+//! limits named beside them. They are held against the reference as well as the engine, so that both hang on the paper.
+
+use outside::maps::Map;
+use outside::reference::lists::one_page_reads;
+use outside::reference::route::Routes;
+use outside::reference::{image, letter, Answer, Search, Tables, SOURCE};
+use outside::yard;
+
+/// Both implementations of each call, under one signature.
+type Check = fn(&[u8]) -> Answer;
+type Run = fn(Search, &[u8], u16, Tables) -> Answer;
+type Way = fn(&[u16], u16, &mut [u16]) -> Answer;
+
+struct Calls {
+    check: Check,
+    search: Run,
+    route: Way,
+}
+
+const REFERENCE: Calls = Calls {
+    check: image::check,
+    search: letter::search,
+    route: |preds, station, out| Routes::new(preds).call(station, out),
+};
+
+const ENGINE: Calls = Calls {
+    check: |image| answered(|answer| yard::check(image, answer)),
+    search: |kind, image, source, tables| answered(|answer| yard::search(kind, image, source, tables, answer)),
+    route: |preds, station, out| answered(|answer| yard::route(preds, station, out, answer)),
+};
+
+fn answered(call: impl FnOnce(&mut [u32]) -> u32) -> Answer {
+    let mut numbers = [0; 4];
+    let refusal = call(&mut numbers);
+    let [count, reached, place, offset] = numbers;
+    Answer { refusal, count, reached, place, offset }
+}
+
+/// How many examples were tried, or the first that came out otherwise.
+pub fn compare() -> Result<usize, String> {
+    let mut tried = 0;
+    for (name, calls) in [("reference", REFERENCE), ("engine", ENGINE)] {
+        let examples = [headings(&calls), pages(&calls), course(&calls), routes(&calls), limits(&calls)];
+        let examples: Vec<_> = examples.into_iter().flatten().collect();
+        if let Some((example, _)) = examples.iter().find(|(_, holds)| !holds) {
+            return Err(format!("{name}: {example}"));
+        }
+        tried = examples.len();
+    }
+    Ok(tried)
+}
+
+type Examples = Vec<(&'static str, bool)>;
+
+fn refused(refusal: u32, place: u32, offset: u32) -> Answer {
+    Answer { place, offset, ..Answer::refused(refusal) }
+}
+
+/// The map of heading, directory and page beginnings; the rest of each page is zeros.
+fn map(stations: u16, directory: &[u8], pages: &[&[u8]]) -> Vec<u8> {
+    let mut image = [stations.to_le_bytes(), (pages.len() as u16).to_le_bytes()].concat();
+    image.extend(directory);
+    for page in pages {
+        image.extend(*page);
+        image.resize(image.len() + 256 - page.len(), 0);
+    }
+    image
+}
+
+/// S, the 261-byte map.
+fn s() -> Vec<u8> {
+    map(1, &[0], &[&[1, 0, 0, 0]])
+}
+
+fn headings(calls: &Calls) -> Examples {
+    let check = |image: &[u8], wanted| (calls.check)(image) == wanted;
+    let s = s();
+    vec![
+        ("S is 261 bytes long and good", s.len() == 261 && check(&s, Answer::default())),
+        ("1", check(&[1, 0, 1], refused(1, 0, 0))),
+        ("2", check(&[0, 0, 1, 0], refused(2, 0, 0))),
+        ("3", check(&[1, 0, 0, 0], refused(3, 0, 0))),
+        ("4", check(&s[..260], refused(4, 0, 0))),
+        ("5", check(&map(1, &[1], &[&[1, 0, 0, 0]]), refused(5, 0, 0))),
+        ("6", search(calls, Search::Df, &s, 1, 1).answer == refused(6, 0, 0)),
+        ("7", list_of_none(calls, &s) == refused(7, 0, 0)),
+    ]
+}
+
+fn list_of_none(calls: &Calls, image: &[u8]) -> Answer {
+    let tables = Tables { times: &mut [7], preds: &mut [7], marks: &mut [7], list: &mut [] };
+    (calls.search)(Search::Df, image, 0, tables)
+}
+
+fn pages(calls: &Calls) -> Examples {
+    let check = |image: Vec<u8>, wanted| (calls.check)(&image) == wanted;
+    let one = |page: &[u8]| map(1, &[0], &[page]);
+    let mut stations = Vec::new();
+    for number in 0..86 {
+        stations.extend([1, number, 0]);
+    }
+    stations.truncate(256);
+    vec![
+        ("8", check(one(&[7]), refused(8, 0, 0))),
+        ("9", check(map(86, &[0; 86], &[&stations]), refused(9, 0, 255))),
+        ("10", check(one(&[]), refused(10, 0, 0))),
+        ("11", check(one(&[2, 0, 0, 1, 0]), refused(11, 0, 0))),
+        ("12", check(one(&[1, 0, 0, 2, 0, 0, 1, 0]), refused(12, 0, 3))),
+        ("13", check(map(2, &[0, 0], &[&[1, 0, 0, 2, 1, 0, 0, 0]]), refused(13, 0, 3))),
+        ("14", check(one(&[1, 0, 0, 0, 5]), refused(14, 0, 3))),
+    ]
+}
+
+/// What a search gave, on tables of just the map's length filled with sevens.
+struct Given {
+    answer: Answer,
+    times: Vec<u32>,
+    preds: Vec<u16>,
+    list: Vec<u8>,
+}
+
+fn search(calls: &Calls, kind: Search, image: &[u8], source: u16, n: usize) -> Given {
+    let (mut times, mut preds, mut marks, mut list) = (vec![7; n], vec![7; n], vec![7; n], vec![7; n]);
+    let tables = Tables { times: &mut times, preds: &mut preds, marks: &mut marks, list: &mut list };
+    let answer = (calls.search)(kind, image, source, tables);
+    list.truncate(answer.count as usize);
+    Given { answer, times, preds, list }
+}
+
+fn m7() -> Vec<u8> {
+    let moves = [(0, 1, 4), (0, 4, 2), (1, 2, 3), (2, 3, 3), (3, 5, 3), (4, 2, 1), (4, 5, 6), (5, 6, 1)];
+    drawn(2, vec![0, 0, 0, 0, 1, 1, 1], &moves)
+}
+
+fn drawn(pages: usize, directory: Vec<u8>, moves: &[(usize, usize, u16)]) -> Vec<u8> {
+    let mut map = Map::new(pages, directory);
+    for &(from, target, time) in moves {
+        map.add(from, target, time);
+    }
+    map.image()
+}
+
+fn course(calls: &Calls) -> Examples {
+    let run = |kind, image: &[u8], source| search(calls, kind, image, source, usize::from(image[0]));
+    let (df, plain) = (run(Search::Df, &m7(), 0), run(Search::Plain, &m7(), 0));
+    let alone = run(Search::Df, &m7(), 6);
+    let single = run(Search::Df, &s(), 0);
+    let tied = run(Search::Df, &drawn(1, vec![0; 4], &[(0, 1, 6), (0, 2, 5), (1, 3, 4), (2, 3, 5)]), 0);
+    let mut spoiled = m7();
+    spoiled[4 + 7 + 256] = 7;
+    let spoiled = run(Search::Df, &spoiled, 0);
+    let apart = map(2, &[0, 1], &[&[1, 0, 0, 0], &[7]]);
+    let (far, near) = (run(Search::Df, &apart, 0), run(Search::Df, &apart, 1));
+    let accepted = |count, reached| Answer { count, reached, ..Answer::default() };
+    vec![
+        ("C1 times", df.times == [0, 4, 3, 6, 2, 8, 9] && plain.times == df.times),
+        ("C1 predecessors", df.preds == [65534, 0, 4, 2, 0, 4, 5] && plain.preds == df.preds),
+        ("C2", df.list == [0, 1, 0] && one_page_reads(&df.list) == 3 && df.answer == accepted(3, 7)),
+        ("C3", plain.list == [0, 1, 0, 0, 0, 1, 1] && one_page_reads(&plain.list) == 4),
+        ("C4", alone.list == [1] && alone.answer == accepted(1, 1)),
+        ("C5", single.list == [0] && single.times == [0]),
+        ("C6", tied.times[3] == 10 && tied.preds[3] == 1),
+        ("C7", spoiled.list == [0, 1] && spoiled.answer == Answer { count: 2, ..refused(8, 1, 0) }),
+        ("C8", far.list == [0] && far.answer == accepted(1, 1)),
+        ("C9", near.list == [1] && near.answer == Answer { count: 1, ..refused(8, 1, 0) }),
+    ]
+}
+
+fn routes(calls: &Calls) -> Examples {
+    let route = |preds: &[u16], station, length| {
+        let mut out = vec![7; length];
+        ((calls.route)(preds, station, &mut out), out)
+    };
+    let found = |count| Answer { count, ..Answer::default() };
+    vec![
+        ("C10", route(&[65534, 0, 4, 2, 0, 4, 5], 6, 5) == (found(4), vec![0, 4, 5, 6, 7])),
+        ("no route", route(&[65535], 0, 1) == (found(0), vec![7])),
+        ("15", route(&[SOURCE], 1, 1) == (refused(15, 0, 0), vec![7])),
+        ("16", route(&[0], 0, 1) == (refused(16, 0, 0), vec![7])),
+        ("17", route(&[SOURCE], 0, 0) == (refused(17, 0, 0), vec![])),
+    ]
+}
+
+/// N 2,048 and 2,049; P 240 and 241; times 65,535 (and 0, which is the example of 13).
+fn limits(calls: &Calls) -> Examples {
+    let check = |image: &[u8], wanted| (calls.check)(image) == wanted;
+    let spread = |stations: usize, pages: usize| (0..stations).map(|at| (at % pages) as u8).collect::<Vec<u8>>();
+    let full = drawn(240, spread(2048, 240), &[(0, 1, 65535), (1, 2047, 65535)]);
+    let too_many = [2049u16.to_le_bytes().to_vec(), vec![240, 0], vec![0; 2049 + 256 * 240]].concat();
+    let too_long = [vec![1, 0, 241, 0, 0], vec![0; 256 * 241]].concat();
+    let long = search(calls, Search::Df, &full, 0, 2048);
+    vec![
+        ("N 2,048, P 240", full.len() == 63_492 && check(&full, Answer::default())),
+        ("N 2,049", check(&too_many, refused(2, 0, 0))),
+        ("P 241", check(&too_long, refused(3, 0, 0))),
+        ("times 65,535", long.times[2047] == 131_070 && long.answer.reached == 3),
+    ]
+}

@@ -1,0 +1,171 @@
+//! One image, source and set of tables: whole check, both searches, demand 3 and the routes by the predecessors left.
+
+use crate::lent::{self, Lent, LentTables, Outcome};
+use crate::routes;
+use crate::tally::{Call, Tally};
+use outside::maps::cases::Case;
+use outside::maps::damage::scramble_unlisted;
+use outside::maps::{page_bytes, Command};
+use outside::random::Random;
+use outside::reference::image::{self, Image};
+use outside::reference::lists::{entry_stations, is_left_of, listed, listed_too_often, one_page_reads};
+use outside::reference::walks::{self, Pages, RefusedPage};
+use outside::reference::{letter, Answer, Search};
+use outside::yard;
+
+/// One search as it is called, before the call.
+struct Called<'a> {
+    kind: Search,
+    image: &'a [u8],
+    source: u16,
+    answer: Lent<u32>,
+    tables: LentTables,
+}
+
+/// What both the engine and the reference made of it.
+struct Agreed {
+    answer: Answer,
+    outcome: Outcome,
+}
+
+impl Agreed {
+    /// The references made; there are none at refusals 1 to 7.
+    fn list(&self) -> &[u8] {
+        &self.outcome.tables.list.entries()[..self.answer.count as usize]
+    }
+}
+
+pub fn compare(case: &Case, random: &mut Random, tally: &mut Tally) -> Result<(), String> {
+    compare_check(case, random, tally)?;
+    let tables = LentTables::new(case.stations, random);
+    let plain = Called::new(Search::Plain, case, &tables, random).agreed(tally)?;
+    let df = Called::new(Search::Df, case, &tables, random).agreed(tally)?;
+    for (kind, agreed) in [(Search::Plain, &plain), (Search::Df, &df)] {
+        let call = Called::new(kind, case, &tables, random);
+        call.compare_scrambled(agreed.list(), random).map_err(|difference| format!("{kind:?}: {difference}"))?;
+    }
+    let Ok(image) = Image::open(&case.image) else { return Ok(()) };
+    let pages = walks::read_all(&image);
+    compare_pages(&image, &pages, case)?;
+    if matches!(df.answer.refusal, 6 | 7) {
+        return Ok(());
+    }
+    compare_truth(&image, &pages, case.source, &plain, &df)?;
+    if df.answer.refusal == 0 {
+        compare_lists(&image, &pages, case.source, &plain, &df)?;
+    }
+    tally.search(&image, &pages, plain.list(), df.list(), df.answer.refusal == 0);
+    let times = df.outcome.tables.times.entries();
+    routes::compare_all(&df.outcome.tables.preds, times, &walks::legs(&pages), image.stations, random, tally)
+}
+
+fn compare_check(case: &Case, random: &mut Random, tally: &mut Tally) -> Result<(), String> {
+    let mut ours = lent::answer(random);
+    let mut wanted = ours.clone();
+    let nothing = Lent::new(0, || 0);
+    let refusal = yard::check(&case.image, ours.lend());
+    let answer = image::check(&case.image);
+    answer.write(wanted.lend());
+    tally.call(Call::Check, answer, false);
+    lent::compare_output((refusal, &ours, &nothing), (answer.refusal, &wanted, &nothing))
+        .map_err(|difference| format!("check: {difference}"))
+}
+
+impl<'a> Called<'a> {
+    fn new(kind: Search, case: &'a Case, tables: &LentTables, random: &mut Random) -> Self {
+        let (image, source) = (&case.image[..], case.source);
+        Called { kind, image, source, answer: lent::answer(random), tables: tables.clone() }
+    }
+
+    fn ours(&self, image: &[u8]) -> Outcome {
+        let (mut answer, mut tables) = (self.answer.clone(), self.tables.clone());
+        let refusal = yard::search(self.kind, image, self.source, tables.lend(), answer.lend());
+        Outcome { refusal, answer, tables }
+    }
+
+    fn agreed(&self, tally: &mut Tally) -> Result<Agreed, String> {
+        let (mut lent_answer, mut tables) = (self.answer.clone(), self.tables.clone());
+        let answer = letter::search(self.kind, self.image, self.source, tables.lend());
+        answer.write(lent_answer.lend());
+        let outcome = Outcome { refusal: answer.refusal, answer: lent_answer, tables };
+        self.ours(self.image).compare(&outcome).map_err(|difference| format!("{:?}: {difference}", self.kind))?;
+        tally.call(Call::of(self.kind), answer, false);
+        Ok(Agreed { answer, outcome })
+    }
+
+    /// Demand 3: an image that agrees on the listed pages gets the same answer, tables and list.
+    fn compare_scrambled(&self, list: &[u8], random: &mut Random) -> Result<(), String> {
+        let other = scramble_unlisted(self.image, &listed(list), random);
+        let differs = |difference| format!("unlisted pages scrambled: {difference}");
+        self.ours(&other).compare(&self.ours(self.image)).map_err(differs)
+    }
+}
+
+/// The reference's page reader against what the page was made of: a good page spells its content, a spoiled one stops
+/// where it was spoiled.
+fn compare_pages(image: &Image, pages: &Pages, case: &Case) -> Result<(), String> {
+    for (page, read) in pages.iter().enumerate() {
+        if let Ok(content) = read {
+            let mut commands = Vec::new();
+            for station in content {
+                commands.push(Command::Station(station.number));
+                commands.extend(station.moves.iter().map(|step| Command::Move(step.target, step.time)));
+            }
+            commands.push(Command::End);
+            if page_bytes(&commands) != image.bytes_of(page) {
+                return Err(format!("reference: page {page} is good and its content spells other bytes"));
+            }
+        }
+        let fault = read.as_ref().err().copied();
+        if let Some(wanted) = case.known.as_ref().map(|known| known[page]).filter(|&wanted| wanted != fault) {
+            return Err(format!("reference: page {page} reads as {fault:?}, and was made as {wanted:?}"));
+        }
+    }
+    Ok(())
+}
+
+/// Times, predecessors, number reached, refused page and Dijkstra's list by the other method.
+fn compare_truth(image: &Image, pages: &Pages, source: u16, plain: &Agreed, df: &Agreed) -> Result<(), String> {
+    let truth = walks::truth(image, pages, source);
+    if plain.list() != truth.plain_list {
+        return Err("the plain list is not the settled stations' pages".into());
+    }
+    for (name, agreed) in [("plain", plain), ("DF", df)] {
+        let Answer { refusal, reached, place, offset, .. } = agreed.answer;
+        let refused =
+            (refusal != 0).then_some(RefusedPage { page: place as usize, fault: image::Fault { refusal, offset } });
+        if refused != truth.refused {
+            return Err(format!("{name} refuses {refused:?}, by walks {:?}", truth.refused));
+        }
+        let tables = &agreed.outcome.tables;
+        if tables.times.entries()[..image.stations] != truth.times {
+            return Err(format!("{name}: times are not the least"));
+        }
+        if tables.preds.entries()[..image.stations] != truth.preds {
+            return Err(format!("{name}: predecessors are not the lowest"));
+        }
+        if reached as usize != truth.reached {
+            return Err(format!("{name}: {reached} reached, by walks {}", truth.reached));
+        }
+    }
+    Ok(())
+}
+
+/// Demand 3 of an accepted search: entries left out, entry stations, reads with one page held.
+fn compare_lists(image: &Image, pages: &Pages, source: u16, plain: &Agreed, df: &Agreed) -> Result<(), String> {
+    let (ours, dijkstras) = (df.list(), plain.list());
+    if !is_left_of(ours, dijkstras) {
+        return Err("the DF list is not the plain list with entries left out".into());
+    }
+    let entries = entry_stations(image.directory, &walks::legs(pages), source, ours);
+    if let Some(page) = listed_too_often(ours, &entries) {
+        return Err(format!(
+            "page {page} is listed more often than its {} entry stations",
+            entries[usize::from(page)]
+        ));
+    }
+    if one_page_reads(ours) > one_page_reads(dijkstras) {
+        return Err("the DF list takes more reads with one page held".into());
+    }
+    Ok(())
+}

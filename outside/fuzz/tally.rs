@@ -1,0 +1,100 @@
+//! What came up in a run: how often each call gave each refusal, of which kinds the cases were, and how often the
+//! searches did what is easily got wrong.
+
+use outside::reference::image::Image;
+use outside::reference::lists::one_page_reads;
+use outside::reference::walks::Pages;
+use outside::reference::{Answer, Search};
+use std::collections::BTreeMap;
+use std::fmt;
+
+#[derive(Clone, Copy)]
+pub enum Call {
+    Check,
+    Plain,
+    Df,
+    Route,
+}
+
+impl Call {
+    pub fn of(kind: Search) -> Self {
+        match kind {
+            Search::Plain => Call::Plain,
+            Search::Df => Call::Df,
+        }
+    }
+}
+
+/// Accepted, refusals 1 to 17, "no route".
+const OUTCOMES: usize = 19;
+const NO_ROUTE: usize = 18;
+
+#[derive(Default)]
+pub struct Tally {
+    calls: [[u64; OUTCOMES]; 4],
+    kinds: BTreeMap<&'static str, u64>,
+    notes: BTreeMap<&'static str, u64>,
+}
+
+impl Tally {
+    pub fn kind(&mut self, kind: &'static str) {
+        *self.kinds.entry(kind).or_default() += 1;
+    }
+
+    pub fn call(&mut self, call: Call, answer: Answer, no_route: bool) {
+        let outcome = if no_route { NO_ROUTE } else { answer.refusal as usize };
+        self.calls[call as usize][outcome] += 1;
+    }
+
+    /// What a search on a map showed.
+    pub fn search(&mut self, image: &Image, pages: &Pages, plain: &[u8], df: &[u8], accepted: bool) {
+        let bad = pages.iter().any(Result::is_err);
+        let stands = |page: u8| df.iter().filter(|&&other| other == page).count();
+        self.note("accepted though a page is bad", accepted && bad);
+        self.note("accepted, some station not reached", accepted && plain.len() < image.stations);
+        self.note("accepted, DF list shorter than plain's", accepted && df.len() < plain.len());
+        self.note("accepted, DF takes fewer one-page reads", accepted && one_page_reads(df) < one_page_reads(plain));
+        self.note("accepted, a page listed twice or more", accepted && df.iter().any(|&page| stands(page) > 1));
+        self.note("accepted, a page listed ten times or more", accepted && df.iter().any(|&page| stands(page) > 9));
+        self.note("refused after three references or more", !accepted && df.len() > 2);
+        self.note("maps of 2,048 stations and 240 pages", image.stations == 2048 && image.pages == 240);
+    }
+
+    fn note(&mut self, note: &'static str, came_up: bool) {
+        *self.notes.entry(note).or_default() += u64::from(came_up);
+    }
+
+    /// The refusals that no call gave.
+    pub fn missing(&self) -> Vec<String> {
+        let never = |outcome: &usize| self.calls.iter().all(|call| call[*outcome] == 0);
+        (0..OUTCOMES).filter(never).map(name).collect()
+    }
+}
+
+fn name(outcome: usize) -> String {
+    match outcome {
+        0 => "accepted".into(),
+        NO_ROUTE => "no route".into(),
+        refusal => format!("refused {refusal}"),
+    }
+}
+
+impl fmt::Display for Tally {
+    fn fmt(&self, out: &mut fmt::Formatter) -> fmt::Result {
+        writeln!(out, "{:<12}{:>12}{:>12}{:>12}{:>12}", "calls", "check", "plain", "df", "route")?;
+        for outcome in 0..OUTCOMES {
+            write!(out, "{:<12}", name(outcome))?;
+            for call in &self.calls {
+                write!(out, "{:>12}", call[outcome])?;
+            }
+            writeln!(out)?;
+        }
+        for (title, counts) in [("kinds of cases", &self.kinds), ("searches", &self.notes)] {
+            writeln!(out, "{title}")?;
+            for (name, count) in counts {
+                writeln!(out, "{count:>12}  {name}")?;
+            }
+        }
+        Ok(())
+    }
+}
