@@ -1,0 +1,112 @@
+//! The baseline: what a good engineer writes in Rust without proofs. One pass over the image checks it and collects the
+//! moves in one vector with a range for each station; then Dijkstra's search with the standard library's heap and lazy
+//! deletion. It gives what the plain search gives: times, lowest predecessors, page list, stations reached.
+
+use std::cmp::Reverse;
+use std::collections::BinaryHeap;
+use std::ops::Range;
+
+const PAGE_BYTES: usize = 256;
+
+pub struct Graph<'a> {
+    directory: &'a [u8],
+    moves: Vec<(u16, u16)>,
+    ranges: Vec<Range<u32>>,
+}
+
+/// The graph of a good image; none for any other.
+pub fn parse(image: &[u8]) -> Option<Graph<'_>> {
+    let (heading, rest) = image.split_first_chunk::<4>()?;
+    let stations = usize::from(u16::from_le_bytes([heading[0], heading[1]]));
+    let pages = usize::from(u16::from_le_bytes([heading[2], heading[3]]));
+    if !(1..=2048).contains(&stations) || !(1..=240).contains(&pages) || rest.len() != stations + PAGE_BYTES * pages {
+        return None;
+    }
+    let (directory, page_bytes) = rest.split_at(stations);
+    let moves = Vec::with_capacity(page_bytes.len() / 5);
+    let mut graph = Graph { directory, moves, ranges: vec![0..0; stations] };
+    let mut named = 0;
+    for (page, bytes) in page_bytes.chunks_exact(PAGE_BYTES).enumerate() {
+        named += graph.parse_page(page as u8, bytes)?;
+    }
+    // Each page names stations of its own only, each once, so the number tells whether one is missing.
+    (named == stations).then_some(graph)
+}
+
+impl Graph<'_> {
+    /// Takes a page's moves in, and tells how many stations it names.
+    fn parse_page(&mut self, page: u8, mut bytes: &[u8]) -> Option<usize> {
+        let mut named = 0;
+        let mut station: Option<u16> = None;
+        let mut last_target: Option<u16> = None;
+        loop {
+            match bytes {
+                [0, rest @ ..] => return rest.iter().all(|&byte| byte == 0).then_some(named),
+                [1, low, high, rest @ ..] => {
+                    let number = u16::from_le_bytes([*low, *high]);
+                    if self.directory.get(usize::from(number)) != Some(&page) || station >= Some(number) {
+                        return None;
+                    }
+                    let start = self.moves.len() as u32;
+                    self.ranges[usize::from(number)] = start..start;
+                    (station, last_target) = (Some(number), None);
+                    named += 1;
+                    bytes = rest;
+                }
+                [2, target_low, target_high, time_low, time_high, rest @ ..] => {
+                    let target = u16::from_le_bytes([*target_low, *target_high]);
+                    let time = u16::from_le_bytes([*time_low, *time_high]);
+                    let from = station?;
+                    let good = usize::from(target) < self.directory.len() && target != from && time != 0;
+                    if !good || last_target >= Some(target) {
+                        return None;
+                    }
+                    self.moves.push((target, time));
+                    self.ranges[usize::from(from)].end += 1;
+                    last_target = Some(target);
+                    bytes = rest;
+                }
+                _ => return None,
+            }
+        }
+    }
+}
+
+/// Dijkstra's search from image bytes: the list's count and the number of stations reached.
+pub fn search(
+    image: &[u8],
+    source: u16,
+    times: &mut [u32],
+    preds: &mut [u16],
+    list: &mut [u8],
+) -> Option<(u32, u32)> {
+    let graph = parse(image)?;
+    times.fill(u32::MAX);
+    preds.fill(65_535);
+    times[usize::from(source)] = 0;
+    preds[usize::from(source)] = 65_534;
+    let mut count = 0;
+    let mut heap = BinaryHeap::with_capacity(times.len());
+    heap.push(Reverse((0u32, source)));
+    while let Some(Reverse((time, station))) = heap.pop() {
+        // Lowered since it was pushed: the lesser entry has been worked off before.
+        if time > times[usize::from(station)] {
+            continue;
+        }
+        list[count] = graph.directory[usize::from(station)];
+        count += 1;
+        let range = &graph.ranges[usize::from(station)];
+        for &(target, step) in &graph.moves[range.start as usize..range.end as usize] {
+            let sum = time + u32::from(step);
+            let before = &mut times[usize::from(target)];
+            if sum < *before {
+                *before = sum;
+                preds[usize::from(target)] = station;
+                heap.push(Reverse((sum, target)));
+            } else if sum == *before && station < preds[usize::from(target)] {
+                preds[usize::from(target)] = station;
+            }
+        }
+    }
+    Some((count as u32, count as u32))
+}
