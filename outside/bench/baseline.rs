@@ -1,6 +1,6 @@
-//! The baseline: what a good engineer writes in Rust without proofs. One pass over the image checks it and collects the
-//! moves in one vector with a range for each station; then Dijkstra's search with the standard library's heap and lazy
-//! deletion. It gives what the plain search gives: times, lowest predecessors, page list, stations reached.
+//! The baseline: what a good engineer writes in Rust without proofs. One pass over the image checks it and collects
+//! the moves in one vector with a range for each station; then Dijkstra's search with the standard library's heap and
+//! lazy deletion. It gives what the plain search gives: times, lowest predecessors, page list, stations reached.
 
 use std::cmp::Reverse;
 use std::collections::BinaryHeap;

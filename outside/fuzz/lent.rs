@@ -1,4 +1,5 @@
-//! Lent memory filled with random canaries. Each table lies between guards, so that a write past its ends is seen too.
+//! Lent memory filled with random canaries. Each table lies between guards, so that a write past its ends is seen
+//! too.
 
 use outside::random::Random;
 use outside::reference::Tables;

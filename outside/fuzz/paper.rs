@@ -1,5 +1,6 @@
 //! The examples that document 01 prints with their answers: the table of refusals, course cases C1 to C10 and the
-//! limits named beside them. They are held against the reference as well as the engine, so that both hang on the paper.
+//! limits named beside them. They are held against the reference as well as the engine, so that both hang on the
+//! paper.
 
 use outside::maps::Map;
 use outside::reference::lists::one_page_reads;

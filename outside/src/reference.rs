@@ -29,8 +29,8 @@ pub struct Tables<'a> {
     pub list: &'a mut [u8],
 }
 
-/// What a call answers: the refusal's number (0 where it accepts) and the numbers that go with it, 0 where they do not
-/// apply. `place` is the page, and for refusal 5 the station.
+/// What a call answers: the refusal's number (0 where it accepts) and the numbers that go with it, 0 where they do
+/// not apply. `place` is the page, and for refusal 5 the station.
 #[derive(Clone, Copy, Debug, Default, PartialEq, Eq)]
 pub struct Answer {
     pub refusal: u32,

@@ -1,5 +1,5 @@
-//! The cases of the fuzzer: an image with a source, and a predecessor table with a station. Each is of a kind, so that
-//! the counts at the end show what was tried.
+//! The cases of the fuzzer: an image with a source, and a predecessor table with a station. Each is of a kind, so
+//! that the counts at the end show what was tried.
 
 use super::damage::{change_byte, change_length, spoil_heading, spoil_page};
 use super::{good, page_bytes, Command, Map, MOST_STATIONS, PAGE_BYTES};

@@ -1,5 +1,5 @@
-//! Damage of every kind, 1 to 5 to a whole image and 8 to 14 to a page. Page damage is made on the drawing, so that the
-//! refusal's number and offset are known without a page reader.
+//! Damage of every kind, 1 to 5 to a whole image and 8 to 14 to a page. Page damage is made on the drawing, so that
+//! the refusal's number and offset are known without a page reader.
 
 use super::{page_bytes, Command, Map, MOST_PAGES, MOST_STATIONS, PAGE_BYTES};
 use crate::random::Random;
@@ -230,8 +230,8 @@ pub fn change_byte(image: &mut [u8], random: &mut Random) {
     };
 }
 
-/// Another image of the same length, heading and directory, and with the same bytes on the listed pages; all others are
-/// changed (demand 3).
+/// Another image of the same length, heading and directory, and with the same bytes on the listed pages; all others
+/// are changed (demand 3).
 pub fn scramble_unlisted(image: &[u8], listed: &[bool; 256], random: &mut Random) -> Vec<u8> {
     let mut other = image.to_vec();
     let Some(&[low, high]) = image.get(..2) else { return other };

@@ -1,5 +1,5 @@
-//! Good maps of many shapes: small and full, with many equal sums, with pages that are entered again and again, chains,
-//! stations without moves, pages without stations, times of 1 and of 65,535.
+//! Good maps of many shapes: small and full, with many equal sums, with pages that are entered again and again,
+//! chains, stations without moves, pages without stations, times of 1 and of 65,535.
 
 use super::{Map, MOST_ON_A_PAGE, MOST_PAGES, MOST_STATIONS};
 use crate::random::Random;
@@ -55,11 +55,26 @@ const CHAINS: [Chain; 5] = [Chain::None, Chain::None, Chain::Up, Chain::Down, Ch
 
 /// A good map of any shape.
 pub fn draw(random: &mut Random) -> Map {
+    if random.one_in(1500) {
+        return longest_ring(random);
+    }
     let (stations, pages) = size(random);
     let mut map = Map::new(pages, directory(random, stations, pages));
     let pace = random.pick(&PACES);
     lay_chain(&mut map, random, pace);
     scatter_moves(&mut map, random, pace);
+    map
+}
+
+/// A ring of slow moves and nothing else: from every source the greatest times that a map can have.
+fn longest_ring(random: &mut Random) -> Map {
+    let stations = random.from_to(MOST_STATIONS - 3, MOST_STATIONS);
+    let dealt = random.one_in(2);
+    let page = |station| if dealt { station % MOST_PAGES } else { station * MOST_PAGES / stations };
+    let mut map = Map::new(MOST_PAGES, (0..stations).map(|station| page(station) as u8).collect());
+    for station in 0..stations {
+        map.add(station, (station + 1) % stations, 65_535);
+    }
     map
 }
 

@@ -1,5 +1,5 @@
-//! "The two searches" of document 01, by the letter: every choice is a look at all stations, every reference reads the
-//! page anew.
+//! "The two searches" of document 01, by the letter: every choice is a look at all stations, every reference reads
+//! the page anew.
 
 use super::image::{Fault, Image, Station};
 use super::{Answer, Search, Tables, NO_PREDECESSOR, NO_TIME, SOURCE};

@@ -1,5 +1,5 @@
-//! "Route" of document 01. The way is not found by following predecessors back, as the engine does, but from the front:
-//! the stations are numbered by how many moves lie between them and a source, in rounds.
+//! "Route" of document 01. The way is not found by following predecessors back, as the engine does, but from the
+//! front: the stations are numbered by how many moves lie between them and a source, in rounds.
 
 use super::{Answer, NO_PREDECESSOR, SOURCE};
 
