@@ -72,8 +72,36 @@ impl Graph<'_> {
     }
 }
 
+/// What the heap is ordered by: time, then station.
+pub trait Key: Ord {
+    fn new(time: u32, station: u16) -> Self;
+    fn parts(&self) -> (u32, u16);
+}
+
+/// The key as one first writes it.
+impl Key for (u32, u16) {
+    fn new(time: u32, station: u16) -> Self {
+        (time, station)
+    }
+
+    fn parts(&self) -> (u32, u16) {
+        *self
+    }
+}
+
+/// Both numbers in one word: quicker to compare.
+impl Key for u64 {
+    fn new(time: u32, station: u16) -> Self {
+        u64::from(time) << 16 | u64::from(station)
+    }
+
+    fn parts(&self) -> (u32, u16) {
+        ((self >> 16) as u32, *self as u16)
+    }
+}
+
 /// Dijkstra's search from image bytes: the list's count and the number of stations reached.
-pub fn search(
+pub fn search<K: Key>(
     image: &[u8],
     source: u16,
     times: &mut [u32],
@@ -87,8 +115,9 @@ pub fn search(
     preds[usize::from(source)] = 65_534;
     let mut count = 0;
     let mut heap = BinaryHeap::with_capacity(times.len());
-    heap.push(Reverse((0u32, source)));
-    while let Some(Reverse((time, station))) = heap.pop() {
+    heap.push(Reverse(K::new(0, source)));
+    while let Some(Reverse(key)) = heap.pop() {
+        let (time, station) = key.parts();
         // Lowered since it was pushed: the lesser entry has been worked off before.
         if time > times[usize::from(station)] {
             continue;
@@ -102,7 +131,7 @@ pub fn search(
             if sum < *before {
                 *before = sum;
                 preds[usize::from(target)] = station;
-                heap.push(Reverse((sum, target)));
+                heap.push(Reverse(K::new(sum, target)));
             } else if sum == *before && station < preds[usize::from(target)] {
                 preds[usize::from(target)] = station;
             }

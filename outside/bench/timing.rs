@@ -9,7 +9,8 @@ pub struct Spread {
 }
 
 impl Spread {
-    pub fn new(mut values: Vec<f64>) -> Self {
+    pub fn new(values: &[f64]) -> Self {
+        let mut values = values.to_vec();
         values.sort_by(f64::total_cmp);
         let at = |quarters: usize| values[(values.len() - 1) * quarters / 4];
         Spread { first: at(1), median: at(2), third: at(3) }

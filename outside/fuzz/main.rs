@@ -49,7 +49,7 @@ fn run(seed: u64, first: u64, count: Option<u64>) -> ExitCode {
             eprintln!("seed {seed}: {case} cases");
         }
     }
-    println!("seed {seed}, cases {first} to {}: no difference\n{tally}", case.wrapping_sub(1));
+    println!("seed {seed}, {} cases from {first} on: no difference\n{tally}", case - first);
     let missing = tally.missing();
     if case - first >= ENOUGH_FOR_ALL && !missing.is_empty() {
         println!("never came up: {}", missing.join(", "));
