@@ -42,7 +42,8 @@ pub fn compare(case: &Case, random: &mut Random, tally: &mut Tally) -> Result<()
     let df = Called::new(Search::Df, case, &tables, random).agreed(tally)?;
     for (kind, agreed) in [(Search::Plain, &plain), (Search::Df, &df)] {
         let call = Called::new(kind, case, &tables, random);
-        call.compare_scrambled(agreed.list(), random).map_err(|difference| format!("{kind:?}: {difference}"))?;
+        call.compare_scrambled(agreed.list(), random, tally)
+            .map_err(|difference| format!("{kind:?}: {difference}"))?;
     }
     let Ok(image) = Image::open(&case.image) else { return Ok(()) };
     let pages = walks::read_all(&image);
@@ -94,8 +95,9 @@ impl<'a> Called<'a> {
     }
 
     /// Demand 3: an image that agrees on the listed pages gets the same answer, tables and list.
-    fn compare_scrambled(&self, list: &[u8], random: &mut Random) -> Result<(), String> {
+    fn compare_scrambled(&self, list: &[u8], random: &mut Random, tally: &mut Tally) -> Result<(), String> {
         let other = scramble_unlisted(self.image, &listed(list), random);
+        tally.note("unlisted pages scrambled, image unlike the first", other != self.image);
         let differs = |difference| format!("unlisted pages scrambled: {difference}");
         self.ours(&other).compare(&self.ours(self.image)).map_err(differs)
     }

@@ -60,7 +60,8 @@ impl Tally {
         self.note("maps of 2,048 stations and 240 pages", image.stations == 2048 && image.pages == 240);
     }
 
-    fn note(&mut self, note: &'static str, came_up: bool) {
+    /// Counts something that is easily got wrong, or tried without effect.
+    pub fn note(&mut self, note: &'static str, came_up: bool) {
         *self.notes.entry(note).or_default() += u64::from(came_up);
     }
 
