@@ -26,7 +26,7 @@ libyard:
 	rt staticlib yard
 
 OUTSIDE := target/outside/liboutside.rlib
-RUSTC := rustc --edition 2021 -C opt-level=3 -D warnings
+RUSTC := rustc --edition 2021 -C opt-level=3
 
 $(OUTSIDE): $(wildcard outside/src/*.rs outside/src/*/*.rs)
 	mkdir -p $(@D)

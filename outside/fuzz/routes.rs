@@ -30,13 +30,13 @@ pub fn compare_all(
     let moves: HashMap<(u16, u16), u64> =
         legs.iter().map(|leg| ((leg.from, leg.target), u64::from(leg.time))).collect();
     let routes = Routes::new(preds);
-    for station in 0..stations {
+    for (station, &time) in times[..stations].iter().enumerate() {
         let route = compare_one(&routes, preds, station as u16, random, tally)
             .map_err(|difference| format!("route to {station}: {difference}"))?;
         let Some(route) = route else { continue };
         let taken: Option<u64> = route.windows(2).map(|pair| moves.get(&(pair[0], pair[1]))).sum();
-        if times[station] == NO_TIME || taken != Some(u64::from(times[station])) {
-            return Err(format!("the route to {station} takes {taken:?}, its time is {}", times[station]));
+        if time == NO_TIME || taken != Some(u64::from(time)) {
+            return Err(format!("the route to {station} takes {taken:?}, its time is {time}"));
         }
     }
     Ok(())
