@@ -1,0 +1,32 @@
+-- `answer_record`: the parts are those of the record's bytes and the answer means the search's reply, so that the line
+-- put is the record's (proofs/Answering.antt).
+use native.Mathlib.Omega.{arith}
+use Rattle.coil.proofs.Answering.{line-of-record}
+use denote.Ref.{now}
+use borrow.Author.Needs.{needs}
+use Rattle.coil.proofs.answer_record.Statement.{statement}
+use Rattle.coil.proofs.answer_record.Tie as tie
+
+record-of-requires : tie.Need-record-of-requires
+record-of-requires c κs = search needs
+
+search-from-requires : tie.Need-search-from-requires
+search-from-requires c κs = search needs
+
+put-line-requires : tie.Need-put-line-requires
+put-line-requires c κs = search needs
+
+returns : tie.Need-returns
+returns c =
+    let answer = c .before .before in
+    let parts = answer .before in
+    let a = parts .before .before .args in
+    let of = parts .record-of .ensures in
+    let is =
+    line-of-record (now (a .image)) (now (a .bytes)) (of .0) (of .1 .0) (of .1 .1) (answer .search-from .ensures) in
+    let put = c .put-line .ensures in
+    (rw is at (put .0 .line), (rw is at (put .0 .size), omega (arith, c .put-line .kept .0)))
+
+pub answer-record-spec : {M : Type 1} → statement M
+answer-record-spec =
+    tie.close (tie.spec record-of-requires search-from-requires put-line-requires returns)

@@ -1,0 +1,74 @@
+-- `put_text`: after i turns the first i bytes of the text stand in the line (lib.Seq's `paste`), and after the last
+-- turn all of them. The measure is what is left of the text.
+use mathlib.Core.Path.{_≡_, refl}
+use Prim.Native.Nat.{_≤_, _-_}
+use native.Mathlib.Omega.{arith}
+use lib.ListN.{length}
+use denote.Ref.{now}
+use lib.Seq.{paste, paste-zero}
+use borrow.Author.Needs.{needs}
+use Rattle.coil.proofs.Placing.{paste-more, paste-all}
+use Rattle.coil.proofs.text.put_text.Statement.{statement}
+use Rattle.coil.proofs.text.put_text.Tie as tie
+
+abbrev Inv-loop : tie.InvT-loop
+Inv-loop line₀ at text i₀ line i = (i ≤ length text) × (line ≡ paste line₀ at text i) × (length line ≡ length line₀)
+
+abbrev μ-loop : tie.MeasureT-loop
+μ-loop line₀ at text i₀ line i = length text - i
+
+loop-holds : tie.Need-loop-holds Inv-loop μ-loop
+loop-holds c = (search needs, paste-zero (now (c .args .line)) (c .args .at) (now (c .args .text)), refl)
+
+shared-slice-read-line : tie.Need-shared-slice-read-line Inv-loop μ-loop
+shared-slice-read-line c = search needs
+
+add-line : tie.Need-add-line Inv-loop μ-loop
+add-line c = search needs
+
+slice-write-line : tie.Need-slice-write-line Inv-loop μ-loop
+slice-write-line c = search needs
+
+add-i : tie.Need-add-i Inv-loop μ-loop
+add-i c = search needs
+
+loop-less : tie.Need-loop-less Inv-loop μ-loop
+loop-less c = search needs
+
+loop-again : tie.Need-loop-again Inv-loop μ-loop
+loop-again c =
+    let a = c .before .before .before .args in
+    let l = c .before .before .loop in
+    let more =
+    paste-more (now (a .line)) (a .at) (now (a .text)) (l .line) (l .i) (search needs) (search needs) (l .inv .1) in
+    (search needs, more, search needs)
+
+add-result : tie.Need-add-result Inv-loop μ-loop
+add-result c = search needs
+
+same-length : tie.Need-same-length Inv-loop μ-loop
+same-length c = search needs
+
+returns : tie.Need-returns Inv-loop μ-loop
+returns c =
+    let a = c .before .before .args in
+    let l = c .before .loop in
+    let end : l .i ≡ length (now (a .text)) = omega arith in
+    (paste-all (now (a .line)) (a .at) (now (a .text)) (l .line) (l .i) end (l .inv .1), omega arith)
+
+pub put-text-spec : {M : Type 1} → statement M
+put-text-spec =
+    tie.close
+    (tie.spec
+    Inv-loop
+    μ-loop
+    loop-holds
+    shared-slice-read-line
+    add-line
+    slice-write-line
+    add-i
+    loop-less
+    loop-again
+    add-result
+    same-length
+    returns)

@@ -1,0 +1,74 @@
+-- The line that the program `coils` prints for a record (01, "Route, whole check, program"), as a list of bytes.
+use mathlib.Core.Bool.{true, false}
+use mathlib.Core.List.{List, [], _∷_, _++_}
+use Prim.Native.Nat.{ℕ, zero, suc, _+_, _*_, _/_, _%_}
+use Prim.Native.Char.{code}
+use Prim.Native.String.{String}
+use Prim.Native.String.{[] as ended, _∷_ as _then_}
+use lib.ListN.{replicate}
+use lib.Dec.{ltb}
+use Rattle.net.specs.Search.{pick, dfSearch}
+use Rattle.page.specs.Bytes.{word}
+use Rattle.search.specs.Reply.{Reply, accepted, refused, page-refused, Lent, lent, searched}
+
+-- "Whole numbers are little-endian": the u32 at an offset.
+abbrev pub long : List ℕ → ℕ → ℕ
+long s at = word s at + 65536 * word s (at + 2)
+
+-- "8-byte records on standard input: u32 coil, u16 length in decimetres, u16 station"
+abbrev pub coilOf : List ℕ → ℕ
+coilOf bytes = long bytes 0
+
+abbrev pub lengthOf : List ℕ → ℕ
+lengthOf bytes = word bytes 4
+
+abbrev pub stationOf : List ℕ → ℕ
+stationOf bytes = word bytes 6
+
+-- The bytes of a text in ASCII.
+unfoldable pub ascii : String → List ℕ
+ascii ended = []
+ascii (c then text) = code c ∷ ascii text
+
+-- "in decimal": the digits of n / 10, none where n is below ten, and then the last digit. So many digits at most.
+unfoldable pub digits : ℕ → ℕ → List ℕ
+digits zero n = []
+digits (suc most) n = let higher = digits most (n / 10) in pick (ltb n 10) [] higher ++ (48 + n % 10) ∷ []
+
+-- A number of 64 bits has twenty digits at most.
+abbrev pub decimal : ℕ → List ℕ
+decimal n = digits 20 n
+
+-- A word or two, and a number.
+abbrev pub named : String → ℕ → List ℕ
+named text n = ascii text ++ decimal n
+
+-- "one line: its coil, length and station in decimal,
+unfoldable pub sourceWords : ℕ → ℕ → ℕ → List ℕ
+sourceWords coil length station = named "coil " coil ++ named " length " length ++ named " from " station
+
+-- then the list count (pages) and the number of stations reached;
+-- as `coil 7 length 8120 from 0 pages 3 reached 7`
+unfoldable pub acceptedLine : ℕ → ℕ → ℕ → ℕ → ℕ → List ℕ
+acceptedLine coil length station count reached =
+    sourceWords coil length station ++ named " pages " count ++ named " reached " reached ++ ascii "\n"
+
+-- at every refusal only coil and refusal number."
+-- as `coil 8 refused 6`
+unfoldable pub refusalLine : ℕ → ℕ → List ℕ
+refusalLine coil number = named "coil " coil ++ named " refused " number ++ ascii "\n"
+
+abbrev pub lineOf : ℕ → ℕ → ℕ → Reply → List ℕ
+lineOf coil length station (accepted count reached) = acceptedLine coil length station count reached
+lineOf coil length station (refused number place) = refusalLine coil number
+lineOf coil length station (page-refused number page offset count) = refusalLine coil number
+
+-- Four tables with room for every map. What stands in them has no bearing on the reply (proofs/Answering.antt).
+abbrev pub blank : Lent
+blank = lent (replicate 2048 0) (replicate 2048 0) (replicate 2048 0) (replicate 2048 0)
+
+-- "Each record in turn gives the source of a DF search and one line". "Length has no bearing on the way."
+unfoldable pub recordLine : List ℕ → List ℕ → List ℕ
+recordLine image bytes =
+    lineOf (coilOf bytes) (lengthOf bytes) (stationOf bytes)
+    ((searched dfSearch image (stationOf bytes) blank) .reply)

@@ -1,0 +1,49 @@
+// The answer to a coil record: the DF search from the record's station, as the line of text that the program `coils`
+// prints (01, "Route, whole check, program").
+
+ghost use mathlib.Core.Path.{_≡_};
+ghost use Prim.Native.Nat.{_≤_};
+ghost use lib.ListN.{length};
+ghost use Rattle.net.specs.Search.{dfSearch};
+ghost use Rattle.search.specs.Reply.{over, meaning, searched};
+ghost use Rattle.coil.specs.Line.{blank, recordLine};
+use lines::put_line;
+use records::record_of;
+use search::Answer;
+
+mod lines;
+mod records;
+mod text;
+
+// The bytes of a line's buffer: room for the words and for five numbers of twenty digits, so that no line is cut.
+pub const ROOM: usize = 160;
+
+// The search from a station, on tables with room for every map.
+fn search_from(image: &[u8], station: u16) -> Answer
+    ensures reply { λ r. ⌜ meaning r ≡ (searched dfSearch (now (image .entry)) station blank) .reply ⌝ }
+{
+    let mut times = [0u32; 2048];
+    let mut preds = [0u16; 2048];
+    let mut marks = [0u8; 2048];
+    let mut list = [0u8; 2048];
+    search::calls::df(
+        image,
+        station,
+        &mut times,
+        &mut preds,
+        &mut marks,
+        &mut list,
+    )
+}
+
+// Puts the record's line at the front of the buffer, and answers how many bytes it has; the bytes behind it are kept.
+pub fn answer_record(image: &[u8], bytes: &[u8; 8], line: &mut [u8; ROOM]) -> usize
+    ensures line { λ r. ⌜
+        now (line .exit) ≡ over (recordLine (now (image .entry)) (now (bytes .entry))) (now (line .entry)) ⌝ }
+    ensures size { λ r. ⌜ r ≡ length (recordLine (now (image .entry)) (now (bytes .entry))) ⌝ }
+    ensures fits { λ r. ⌜ r ≤ length (now (line .exit)) ⌝ }
+{
+    let parts = record_of(bytes);
+    let answer = search_from(image, parts.station);
+    put_line(line, parts, answer)
+}

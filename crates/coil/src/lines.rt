@@ -1,0 +1,72 @@
+// The line of a record: what the search answered, in words and decimal numbers, at the front of a buffer of 160 bytes
+// or more.
+
+ghost use mathlib.Core.Path.{_≡_};
+ghost use Prim.Native.Nat.{_≤_};
+ghost use lib.ListN.{length};
+ghost use Rattle.search.specs.Reply.{meaning};
+ghost use Rattle.coil.specs.Line.{sourceWords, acceptedLine, refusalLine, lineOf};
+ghost use Rattle.coil.specs.Writing.{Fronted};
+use super::records::Record;
+use super::text::put_number;
+use super::text::put_text;
+use search::Answer;
+
+// `coil C length L from S`
+fn put_source(line: &mut [u8], parts: Record) -> usize
+    requires room { ⌜ 160 ≤ length (now line) ⌝ }
+    ensures put { λ r. ⌜
+        Fronted (sourceWords (parts .coil) (parts .length) (parts .station))
+        (now (line .entry)) (now (line .exit)) r ⌝ }
+    ensures within { λ r. ⌜ r ≤ 79 ⌝ }
+{
+    let mut at = put_number(line, 0, b"coil ", parts.coil as u64);
+    at = put_number(line, at, b" length ", parts.length as u64);
+    put_number(line, at, b" from ", parts.station as u64)
+}
+
+// `coil C length L from S pages K reached R`
+fn put_accepted(line: &mut [u8], parts: Record, count: usize, reached: usize) -> usize
+    requires room { ⌜ 160 ≤ length (now line) ⌝ }
+    ensures put { λ r. ⌜
+        Fronted (acceptedLine (parts .coil) (parts .length) (parts .station) count reached)
+        (now (line .entry)) (now (line .exit)) r ⌝ }
+    ensures within { λ r. ⌜ r ≤ 160 ⌝ }
+{
+    let mut at = put_source(line, parts);
+    at = put_number(line, at, b" pages ", count as u64);
+    at = put_number(line, at, b" reached ", reached as u64);
+    put_text(line, at, b"\n")
+}
+
+// `coil C refused N`
+fn put_refusal(line: &mut [u8], coil: u32, number: u8) -> usize
+    requires room { ⌜ 160 ≤ length (now line) ⌝ }
+    ensures put { λ r. ⌜ Fronted (refusalLine coil number) (now (line .entry)) (now (line .exit)) r ⌝ }
+    ensures within { λ r. ⌜ r ≤ 160 ⌝ }
+{
+    let mut at = put_number(line, 0, b"coil ", coil as u64);
+    at = put_number(line, at, b" refused ", number as u64);
+    put_text(line, at, b"\n")
+}
+
+// The line of a record whose search answered so.
+pub fn put_line(line: &mut [u8], parts: Record, answer: Answer) -> usize
+    requires room { ⌜ 160 ≤ length (now line) ⌝ }
+    ensures put { λ r. ⌜
+        Fronted (lineOf (parts .coil) (parts .length) (parts .station) (meaning answer))
+        (now (line .entry)) (now (line .exit)) r ⌝ }
+    ensures within { λ r. ⌜ r ≤ 160 ⌝ }
+{
+    match answer {
+        Answer::Accepted { count, reached } => put_accepted(line, parts, count, reached),
+        Answer::Refused(number) => put_refusal(line, parts.coil, number),
+        Answer::NoPage(_) => put_refusal(line, parts.coil, 5),
+        Answer::BadPage {
+            number,
+            page: _,
+            offset: _,
+            count: _,
+        } => put_refusal(line, parts.coil, number),
+    }
+}
