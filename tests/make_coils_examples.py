@@ -1,0 +1,100 @@
+"""Writes the examples of the program coils: document 01's (crates/coils: data/yard.map, stdin, stdout) and a plate
+yard's (examples/plate: yard.map, records, expected).
+
+    python3 tests/make_coils_examples.py            write the files
+    python3 tests/make_coils_examples.py --check    only compare them with what would be written; exit 1 if they differ
+
+The expected lines come from coils.py, and document 01's are stated here by hand too.
+"""
+import random
+import sys
+from pathlib import Path
+
+from coils import line, printed
+from make_search_cases import M7, damaged, page_begins, spelled
+from maps import u16, u32
+from searches import df
+
+ROOT = Path(__file__).resolve().parent.parent
+
+# The plate yard: a grid of one-way lanes, its stations numbered by rows and dealt out to the pages by threes, so that
+# a search enters each page again and again; and a siding of four stations on a page of their own, which leads into the
+# grid and to which nothing leads.
+ROWS, COLUMNS, SIDING = 18, 22, 4
+GRID_PAGES = 23
+
+
+def record(coil, length, station):
+    return u32(coil) + u16(length) + u16(station)
+
+
+def document_example():
+    data = bytes.fromhex('07 00 00 00 B8 1F 00 00  08 00 00 00 B8 1F 07 00')
+    expected = printed(M7, data)
+    assert expected == b'coil 7 length 8120 from 0 pages 3 reached 7\ncoil 8 refused 6\n', expected
+    return M7, data, expected
+
+
+def lane_moves(rng):
+    """Even rows lead to the right and odd ones to the left; even columns lead up and odd ones down."""
+    moves = {}
+    for row in range(ROWS):
+        for column in range(COLUMNS):
+            across = (row, column + (1 if row % 2 == 0 else -1))
+            along = (row + (-1 if column % 2 == 0 else 1), column)
+            moves[row * COLUMNS + column] = [
+                (r * COLUMNS + c, rng.randint(20, 400)) for r, c in (across, along)
+                if 0 <= r < ROWS and 0 <= c < COLUMNS]
+    return moves
+
+
+def plate_yard():
+    """The yard's map. The last move of the siding's page takes no time: refusal 13 for whoever reaches that page."""
+    rng = random.Random(400)
+    grid = ROWS * COLUMNS
+    directory = [s // 3 % GRID_PAGES for s in range(grid)] + [GRID_PAGES] * SIDING
+    moves = lane_moves(rng)
+    for k in range(SIDING):
+        moves[grid + k] = [(k * COLUMNS, 50)]
+    good = spelled(directory, moves, GRID_PAGES + 1)
+    last_move = page_begins(good, GRID_PAGES) + SIDING * 8 - 5
+    return damaged(good, (last_move + 3, 0))
+
+
+def plate_example():
+    yard = plate_yard()
+    grid = ROWS * COLUMNS
+    rows = [(1201, 8120, 0), (1202, 7995, 21), (1203, 12040, 197), (1204, 65535, grid - 1), (1205, 1, grid),
+            (1206, 8120, 310), (0, 0, 88), (4294967295, 65535, grid + SIDING - 1), (1207, 9000, grid + SIDING),
+            (1208, 9000, 65535), (1209, 8440, 203), (1201, 640, 0)]
+    data = b''.join(record(*row) for row in rows)
+    counts = [df(yard, station, (2048,) * 4).answer[1:] for _, _, station in rows if station < grid]
+    # every station of the grid is reached, and a page is entered four times or more on average
+    assert all(reached == grid and count >= 4 * GRID_PAGES for count, reached in counts), counts
+    assert line(yard, record(*rows[4])) == 'coil 1205 refused 13\n'
+    assert line(yard, record(*rows[8])) == 'coil 1207 refused 6\n'
+    data += data[:3]
+    return yard, data, printed(yard, data)
+
+
+def files():
+    course, plate = ROOT / 'crates' / 'coils', ROOT / 'examples' / 'plate'
+    paths = [course / 'data' / 'yard.map', course / 'stdin', course / 'stdout',
+             plate / 'yard.map', plate / 'records', plate / 'expected']
+    return list(zip(paths, document_example() + plate_example()))
+
+
+def main():
+    made = files()
+    if '--check' in sys.argv[1:]:
+        differing = [str(path.relative_to(ROOT)) for path, data in made
+                     if not path.exists() or path.read_bytes() != data]
+        print('differs: ' + ', '.join(differing) if differing else f'{len(made)} files as written')
+        sys.exit(1 if differing else 0)
+    for path, data in made:
+        path.parent.mkdir(parents=True, exist_ok=True)
+        path.write_bytes(data)
+
+
+if __name__ == '__main__':
+    main()
