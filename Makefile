@@ -1,4 +1,12 @@
-.PHONY: test cases fuzz bench libyard
+.PHONY: run test cases coils-test c-example fuzz bench libyard
+
+# Builds the program and runs it on document 01's example and on a plate yard, whose pages are entered again and again.
+run:
+	rt check coils
+	cd crates/coils/data && $(CURDIR)/target/bin/coils <../stdin | tee $(CURDIR)/target/course.out
+	cmp target/course.out crates/coils/stdout
+	cd examples/plate && $(CURDIR)/target/bin/coils <records | tee $(CURDIR)/target/plate.out
+	cmp target/plate.out examples/plate/expected
 
 # The gate: every crate proved, every must-fail edit refused, every program's output as stored.
 test:
@@ -9,6 +17,21 @@ cases:
 	python3 tests/make_page_cases.py --check
 	python3 tests/make_search_cases.py --check
 	python3 tests/make_route_cases.py --check
+	python3 tests/make_coils_examples.py --check
+
+# Runs the built program from outside: missing and oversized maps, records cut short, a slow writer (needs Python 3).
+coils-test:
+	rt check coils
+	python3 tests/coils_outside.py
+
+# Proves the engine and writes target/staticlib/libyard.a; rt does again only what has changed.
+libyard:
+	rt staticlib yard
+
+# Builds and runs the C program of README.md on the example's map (needs a C compiler).
+c-example: libyard
+	$(CC) -std=c99 -Wall -Wextra -Werror -Iinclude -o target/way examples/way.c target/staticlib/libyard.a
+	target/way crates/coils/data/yard.map 0 6
 
 COUNT ?= 20000
 SEED ?= 1
@@ -20,10 +43,6 @@ fuzz: target/outside/fuzz
 # Measures the C interface against Dijkstra's search in Rust (needs rustc).
 bench: target/outside/bench
 	target/outside/bench
-
-# Proves the engine and writes target/staticlib/libyard.a; rt does again only what has changed.
-libyard:
-	rt staticlib yard
 
 OUTSIDE := target/outside/liboutside.rlib
 RUSTC := rustc --edition 2021 -C opt-level=3
