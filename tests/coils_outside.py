@@ -112,6 +112,19 @@ def run_slowly():
     return good
 
 
+def run_pipe():
+    """A map that arrives in pieces is read to its end."""
+    with tempfile.TemporaryDirectory() as folder:
+        os.mkfifo(Path(folder) / 'yard.map')
+        program = started(folder)
+        with open(Path(folder) / 'yard.map', 'wb', buffering=0) as pipe:
+            for at in range(0, len(M7), 100):
+                pipe.write(M7[at:at + 100])
+                time.sleep(0.02)
+        out, err = program.communicate(FROM_0, timeout=20)
+    return compare('a map in pieces', out + err, LINE_0)
+
+
 def run_folder():
     """A folder in the map's place opens and can't be read: it is empty too."""
     with tempfile.TemporaryDirectory() as folder:
@@ -124,7 +137,7 @@ def main():
     global PROGRAM
     if len(sys.argv) > 1:
         PROGRAM = Path(sys.argv[1]).resolve()
-    results = [run(*case) for case in cases()] + [run_slowly(), run_folder()]
+    results = [run(*case) for case in cases()] + [run_slowly(), run_pipe(), run_folder()]
     print(f'{len(results)} runs of coils, {results.count(False)} with a difference')
     sys.exit(1 if False in results else 0)
 

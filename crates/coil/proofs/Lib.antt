@@ -1,7 +1,6 @@
--- `Placing`, `Digits` and `Answering` are the laws behind the functions' proofs. `Decimal` and `Example` hold the
--- definitions of specs/Line.antt against what they are to say.
+-- `Placing`, `Digits` and `Answering` are the laws behind the functions' proofs. `Decimal` says what the definition of
+-- decimal digits gives.
 pub mod Placing
 pub mod Digits
 pub mod Answering
 pub mod Decimal
-pub mod Example

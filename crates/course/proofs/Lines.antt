@@ -1,4 +1,5 @@
--- Document 01's example, computed from the definitions: for map M7 and its two records the lines are those it prints.
+-- Document 01's example of the program, computed from the definitions: for map M7 and the two records the lines are
+-- those that it states.
 use mathlib.Core.Path.{_≡_, refl}
 use mathlib.Core.List.{List, [], _∷_}
 use Prim.Native.Nat.{ℕ}
@@ -13,8 +14,8 @@ use Rattle.page.specs.Check.{readingOf}
 use Rattle.page.specs.Walk.{movesOf}
 use Rattle.search.specs.Map.{mapPage}
 use Rattle.search.specs.Reply.{onMap, searched}
-use Rattle.course.specs.Cases.{m7}
 use Rattle.coil.specs.Line.{ascii, digits, sourceWords, acceptedLine, refusalLine, recordLine}
+use Rattle.course.specs.Cases.{m7}
 
 -- "records `07 00 00 00 B8 1F 00 00`
 pub first-line : recordLine m7 (0x07 ∷ 0 ∷ 0 ∷ 0 ∷ 0xB8 ∷ 0x1F ∷ 0 ∷ 0 ∷ [])
