@@ -15,7 +15,7 @@ from pathlib import Path
 
 from coils import LONGEST, printed
 from make_coils_examples import plate_yard, record
-from make_search_cases import M7, damaged, page_begins, spelled
+from make_search_cases import M7, damaged, page_begins, random_change, random_map, spelled
 
 PROGRAM = Path(__file__).resolve().parent.parent / 'target' / 'bin' / 'coils'
 FROM_0, FROM_7 = record(7, 8120, 0), record(8, 8120, 7)
@@ -66,7 +66,16 @@ def cases():
         made.append(row(f'a record and {size} bytes', M7, FROM_7 + FROM_0[:size], LINE_7 + b'short\n'))
     for size in (3, 4, 300, LONGEST, 65000):
         made.append(row(f'a map of {size} random bytes', rng.randbytes(size), both))
-    return made
+    return made + [damaged_map(rng, number) for number in range(200)]
+
+
+def damaged_map(rng, number):
+    """A random map with up to three bytes changed, and a record from each station and from one that it lacks."""
+    data, _ = random_map(rng)
+    changes = dict(random_change(rng, data) for _ in range(rng.randint(0, 3)))
+    stations = int.from_bytes(data[:2], 'little') + 1
+    records = [record(rng.randrange(2**32), rng.randrange(2**16), station) for station in range(stations)]
+    return row(f'random map {number}', damaged(data, *changes.items()), b''.join(records))
 
 
 def run(label, file, data, wanted):
@@ -112,15 +121,29 @@ def run_slowly():
     return good
 
 
+def opened_by_reader(path, seconds):
+    """The pipe, open for writing once the program reads it; None if it doesn't within the time."""
+    end = time.monotonic() + seconds
+    while time.monotonic() < end:
+        try:
+            return os.open(path, os.O_WRONLY | os.O_NONBLOCK)
+        except OSError:  # nobody reads it yet
+            time.sleep(0.01)
+    return None
+
+
 def run_pipe():
     """A map that arrives in pieces is read to its end."""
     with tempfile.TemporaryDirectory() as folder:
-        os.mkfifo(Path(folder) / 'yard.map')
+        path = Path(folder) / 'yard.map'
+        os.mkfifo(path)
         program = started(folder)
-        with open(Path(folder) / 'yard.map', 'wb', buffering=0) as pipe:
+        pipe = opened_by_reader(path, 20)
+        if pipe is not None:
             for at in range(0, len(M7), 100):
-                pipe.write(M7[at:at + 100])
+                os.write(pipe, M7[at:at + 100])
                 time.sleep(0.02)
+            os.close(pipe)
         out, err = program.communicate(FROM_0, timeout=20)
     return compare('a map in pieces', out + err, LINE_0)
 

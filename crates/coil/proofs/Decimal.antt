@@ -1,6 +1,6 @@
 -- What `decimal` is: read back, digit by digit, it is the number; it begins with no zero, but for the number 0, which
 -- is one digit. Both by induction on the number of digits.
-use mathlib.Core.Path.{_≡_, refl, ap, _∙_}
+use mathlib.Core.Path.{_≡_, refl, _∙_}
 use mathlib.Core.Bool.{Bool, true, false}
 use mathlib.Core.List.{List, [], _∷_, _++_}
 use Prim.Native.Nat.{ℕ, zero, suc, _+_, _-_, _*_, _/_, _%_, _^_, _≤_, _<_}

@@ -1,5 +1,4 @@
 -- The line that the program `coils` prints for a record (01, "Route, whole check, program"), as a list of bytes.
-use mathlib.Core.Bool.{true, false}
 use mathlib.Core.List.{List, [], _∷_, _++_}
 use Prim.Native.Nat.{ℕ, zero, suc, _+_, _*_, _/_, _%_}
 use Prim.Native.Char.{code}

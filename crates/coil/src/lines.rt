@@ -1,7 +1,6 @@
 // The line of a record: what the search answered, in words and decimal numbers, at the front of a buffer of 160 bytes
 // or more.
 
-ghost use mathlib.Core.Path.{_≡_};
 ghost use Prim.Native.Nat.{_≤_};
 ghost use lib.ListN.{length};
 ghost use Rattle.search.specs.Reply.{meaning};

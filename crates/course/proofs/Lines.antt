@@ -1,8 +1,7 @@
 -- Document 01's example of the program, computed from the definitions: for map M7 and the two records the lines are
 -- those that it states.
 use mathlib.Core.Path.{_≡_, refl}
-use mathlib.Core.List.{List, [], _∷_}
-use Prim.Native.Nat.{ℕ}
+use mathlib.Core.List.{[], _∷_}
 use Rattle.net.specs.Net.{count}
 use Rattle.net.specs.Search.{least, iter, reached, start, choose, chooseOn, readFor, relax, relaxAll, visit, workTurn}
 use Rattle.net.specs.Search.{workThrough, dfVisit, stepBy, searchBy, dfSearch}
