@@ -10,7 +10,7 @@ use Rattle.net.specs.Search.{pick, State, Halt, going, dfSearch}
 use Rattle.net.specs.Search.{refused as halted}
 use Rattle.page.specs.Image.{Outcome, nowhere, stationCount, headingCheck}
 use Rattle.page.specs.Image.{accepted as well-formed, refused as ill-formed}
-use Rattle.search.specs.Map.{mapFrame, mapPage}
+use Rattle.steps.specs.Map.{mapFrame, mapPage}
 use Rattle.search.specs.Reply.{Reply, refused, Lent, handed, ended, tooShort, onMap, afterHeading, searched}
 use Rattle.coil.specs.Line.{coilOf, lengthOf, stationOf, blank, lineOf, recordLine}
 

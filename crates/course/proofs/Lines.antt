@@ -11,7 +11,7 @@ use Rattle.page.specs.Reading.{commandAt, firstOn, nextOn, judgeEnd, judgeStati
 use Rattle.page.specs.Reading.{readFrom, readPage}
 use Rattle.page.specs.Check.{readingOf}
 use Rattle.page.specs.Walk.{movesOf}
-use Rattle.search.specs.Map.{mapPage}
+use Rattle.steps.specs.Map.{mapPage}
 use Rattle.search.specs.Reply.{onMap, searched}
 use Rattle.coil.specs.Line.{ascii, digits, sourceWords, acceptedLine, refusalLine, recordLine}
 use Rattle.course.specs.Cases.{m7}

@@ -11,7 +11,7 @@ use Rattle.page.specs.Image.{directoryOf, pageBytes, firstNotBelow, headingChec
 use Rattle.page.specs.Reading.{commandAt, firstOn, nextOn, judgeEnd, judgeStation, judgeMove, judge, judgedAt, readFrom, readPage}
 use Rattle.page.specs.Check.{readingOf}
 use Rattle.page.specs.Walk.{movesOf}
-use Rattle.search.specs.Map.{mapPage}
+use Rattle.steps.specs.Map.{mapPage}
 use Rattle.search.specs.Reply.{onMap, searched}
 use Rattle.route.specs.Route.{chain, outcome, routeCall}
 use Rattle.course.specs.Cases.{Case, shown, cases}

@@ -26,12 +26,12 @@ use Rattle.page.proofs.Heading.{formed}
 use Rattle.page.proofs.Offsets.{PlaceBy256, heading-by-256}
 use Rattle.page.proofs.Agree.{stations-agree, heading-agrees, reading-agrees}
 use Rattle.relax.specs.Tables.{frame}
-use Rattle.search.specs.Map.{mapFrame, offered, mapPage}
+use Rattle.steps.specs.Map.{mapFrame, offered, mapPage}
 use Rattle.search.specs.Reply.{accepted, refused, page-refused, Lent, Handed, handed, ended, tooShort, onMap}
 use Rattle.search.specs.Reply.{afterHeading, searched, listOf}
 use Rattle.search.specs.Promises.{TimesAreLeast, PageIsFirstBad, SameLengths, ListAgainstDijkstra}
 use Rattle.search.specs.Promises.{SameOnListedPages}
-use Rattle.search.specs.Steps.{searchOf}
+use Rattle.search.specs.Running.{searchOf}
 use Rattle.search.proofs.Soundness.{image-sound}
 
 -- the list that a search which has ended hands back is its page list

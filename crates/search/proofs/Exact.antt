@@ -17,11 +17,12 @@ use Rattle.page.specs.Image.{directoryOf}
 use Rattle.queue.specs.Queue.{nobody, keyOf, Tree, Put, Queue}
 use Rattle.queue.proofs.Queue.{empty-tree, queue-start}
 use Rattle.relax.specs.Tables.{noTime, Tables, stateOf}
-use Rattle.search.specs.declared.Step.{Step}
-use Rattle.search.specs.declared.Step.the-variants.{On, Stopped}
-use Rattle.search.specs.Map.{mapFrame, mapPage}
+use Rattle.steps.specs.declared.Step.{Step}
+use Rattle.steps.specs.declared.Step.the-variants.{On, Stopped}
+use Rattle.steps.specs.Map.{mapFrame, mapPage}
 use Rattle.search.specs.Reply.{Reply, accepted, page-refused, Lent, lent, handed, over, ended, onMap}
-use Rattle.search.specs.Steps.{countOf, haltOf, standing, stepsOf, searchOf, Begun, replyOf, Left}
+use Rattle.steps.specs.Steps.{countOf, haltOf, standing}
+use Rattle.search.specs.Running.{stepsOf, searchOf, Begun, replyOf, Left}
 
 -- The start.
 module _ (source size : ℕ) (few : size ≤ 2048) (small : source < size) where

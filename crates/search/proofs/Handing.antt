@@ -21,10 +21,10 @@ use Rattle.page.specs.Image.{accepted as well-formed, refused as ill-formed, me
 use Rattle.page.specs.declared.Checked.{Checked}
 use Rattle.page.proofs.Judging.{never}
 use Rattle.relax.specs.Tables.{noTime}
-use Rattle.search.specs.Map.{mapFrame, mapPage}
+use Rattle.steps.specs.Map.{mapFrame, mapPage}
 use Rattle.search.specs.Reply.{Reply, refused, Lent, lent, Handed, handed, over, ended, tooShort, onMap}
 use Rattle.search.specs.Reply.{afterHeading, searched}
-use Rattle.search.specs.Steps.{searchOf}
+use Rattle.search.specs.Running.{searchOf}
 
 -- What a call has refused, or that it goes on.
 or-none : (a b : Bool) → a || b ≡ false → (a ≡ false) × (b ≡ false)

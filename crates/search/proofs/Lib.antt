@@ -1,6 +1,4 @@
--- The laws behind the functions' proofs, from the pages that a search notes to the demands on what it hands back.
-pub mod Noting
-pub mod Visiting
+-- The laws behind the functions' proofs, from the loop of a search to the demands on what it hands back.
 pub mod Running
 pub mod Soundness
 pub mod Exact

@@ -20,10 +20,11 @@ use Rattle.page.specs.Image.{directoryOf}
 use Rattle.queue.specs.Queue.{noTime, waits, chosen, Queue}
 use Rattle.queue.proofs.Queue.{choose-going}
 use Rattle.relax.specs.Tables.{Tables}
-use Rattle.search.specs.declared.Step.{Step}
-use Rattle.search.specs.declared.Step.the-variants.{On, Stopped}
-use Rattle.search.specs.Map.{mapFrame, mapPage}
-use Rattle.search.specs.Steps.{countOf, haltOf, standing, visitOf, stepsOf, Known}
+use Rattle.steps.specs.declared.Step.{Step}
+use Rattle.steps.specs.declared.Step.the-variants.{On, Stopped}
+use Rattle.steps.specs.Map.{mapFrame, mapPage}
+use Rattle.steps.specs.Steps.{countOf, haltOf, standing, visitOf, Known}
+use Rattle.search.specs.Running.{stepsOf}
 
 -- what stands behind the references made stays as it was
 drop-further : (l m : List ℕ) (i j : ℕ) → i ≤ j → drop i l ≡ drop i m → drop j l ≡ drop j m

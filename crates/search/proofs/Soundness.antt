@@ -19,9 +19,9 @@ use Rattle.page.specs.Good.{GoodMoves}
 use Rattle.page.proofs.Heading.{formed}
 use Rattle.page.proofs.Promise.{promise}
 use Rattle.relax.specs.Tables.{netMove}
-use Rattle.search.specs.Map.{mapFrame, offered, mapPage}
-use Rattle.search.proofs.Noting.{bytes-page}
-use Rattle.search.proofs.Visiting.{moves-good}
+use Rattle.steps.specs.Map.{mapFrame, offered, mapPage}
+use Rattle.steps.proofs.Noting.{bytes-page}
+use Rattle.steps.proofs.Visiting.{moves-good}
 
 member-good : (n own least v w : ℕ) (moves : List Move) → GoodMoves n own least moves
     → List·Memᴰ (record { target = v; weight = w }) (map netMove moves) → (0 < w) × (w ≤ 65535) × (v < n)

@@ -1,4 +1,3 @@
-pub mod Map
 pub mod Reply
 pub mod Promises
-pub mod Steps
+pub mod Running

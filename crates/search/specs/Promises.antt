@@ -7,7 +7,7 @@ use Rattle.net.specs.Net.{Frame, Page}
 use Rattle.net.specs.Search.{State, plainSearch}
 use Rattle.net.specs.Demands.{LeastTimes, RefusedPage, ListOf}
 use Rattle.page.specs.Image.{stationCount, AgreeOnHeading, AgreeOnDirectory, AgreeOnPage}
-use Rattle.search.specs.Map.{mapFrame, mapPage}
+use Rattle.steps.specs.Map.{mapFrame, mapPage}
 use Rattle.search.specs.Reply.{Lent, Handed, accepted, page-refused, searched, listOf}
 
 -- Tables of the same lengths.

@@ -12,7 +12,7 @@ use Rattle.page.specs.Image.{accepted as well-formed, refused as ill-formed}
 use Rattle.relax.specs.Tables.{noTime}
 use Rattle.search.specs.declared.Answer.{Answer}
 use Rattle.search.specs.declared.Answer.the-variants.{Accepted, Refused, NoPage, BadPage}
-use Rattle.search.specs.Map.{mapFrame, mapPage}
+use Rattle.steps.specs.Map.{mapFrame, mapPage}
 
 -- "Accepted: the answer has the list's count and the number of stations reached." A refusal has its number and its
 -- place; at a page refusal "the answer gives count, page and offset".

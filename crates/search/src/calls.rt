@@ -9,7 +9,7 @@ ghost use Rattle.net.specs.Search.{plainSearch, dfSearch};
 ghost use Rattle.page.specs.Image.{headingCheck, accepted};
 ghost use Rattle.search.specs.Reply.{lent, returned, afterHeading, searched};
 ghost use Rattle.search.specs.Promises.{TimesAreLeast, PageIsFirstBad, ListAgainstDijkstra, SameOnListedPages};
-ghost use Rattle.search.specs.Steps.{searchOf};
+ghost use Rattle.search.specs.Running.{searchOf};
 use super::Answer;
 use super::run::search_exact;
 use page::Checked;

@@ -2,9 +2,7 @@
 // page reader's promise and look at no byte of a page.
 
 pub mod calls;
-mod pages;
 mod run;
-mod visits;
 
 // What a search answers.
 pub enum Answer {
@@ -19,17 +17,6 @@ pub enum Answer {
     NoPage(u16),
     // 8 to 14: a bad page, and the number of entries of the page list, of which that page is the last.
     BadPage {
-        number: u8,
-        page: u8,
-        offset: usize,
-        count: usize,
-    },
-}
-
-// How a search stands after a step: it goes on, or a bad page stopped it; and the number of page references so far.
-pub enum Step {
-    On(usize),
-    Stopped {
         number: u8,
         page: u8,
         offset: usize,

@@ -7,13 +7,12 @@ ghost use Rattle.page.specs.Image.{directoryOf, headingCheck, accepted};
 ghost use Rattle.page.specs.Walk.{Threaded};
 ghost use Rattle.queue.specs.Queue.{nobody, Queue};
 ghost use Rattle.relax.specs.Tables.{tables};
-ghost use Rattle.search.specs.declared.Step.the-variants.{On};
-ghost use Rattle.search.specs.Map.{mapFrame, mapPage};
+ghost use Rattle.steps.specs.declared.Step.the-variants.{On};
+ghost use Rattle.steps.specs.Map.{mapFrame, mapPage};
 ghost use Rattle.search.specs.Reply.{meaning, lent, handed, onMap};
-ghost use Rattle.search.specs.Steps.{countOf, standing, stepsOf, searchOf, Begun, replyOf, Left, Known};
+ghost use Rattle.steps.specs.Steps.{countOf, standing, Known};
+ghost use Rattle.search.specs.Running.{stepsOf, searchOf, Begun, replyOf, Left};
 use super::Answer;
-use super::Step;
-use super::visits::step;
 use net::Choice;
 use page::directory::thread;
 use page::image::directory_of;
@@ -22,6 +21,8 @@ use relax::tables::clear_marks;
 use relax::tables::reached;
 use relax::tables::set_pred;
 use relax::tables::set_time;
+use steps::Step;
+use steps::visits::step;
 
 // The predecessor of the source.
 const SOURCE: u16 = 65534;

@@ -27,9 +27,9 @@ use Rattle.page.proofs.Offsets.{FaultBy, reading-by-256, PlaceBy256, whole-by-2
 use Rattle.route.specs.Route.{Chain, whole, broken, lengthened, chain, predecessorAt, sourceMark, noneMark}
 use Rattle.route.specs.Route.{found, noRoute, fitted, outcome, handedBack, routeCall}
 use Rattle.route.specs.Route.{pick as route-pick, refused as route-refused}
-use Rattle.search.specs.Map.{mapFrame, offered, mapPage}
+use Rattle.steps.specs.Map.{mapFrame, offered, mapPage}
 use Rattle.search.specs.Reply.{Lent, ended, onMap, searched}
-use Rattle.search.specs.Steps.{searchOf}
+use Rattle.search.specs.Running.{searchOf}
 use Rattle.search.proofs.Demanded.{Told, told, sound-of}
 use Rattle.yard.specs.Numbers.{numbers, refusedAt, ofCheck, ofSearch, ofRoute, Small}
 

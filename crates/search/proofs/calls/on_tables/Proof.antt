@@ -10,7 +10,7 @@ use Rattle.page.specs.Bytes.{Bytes}
 use Rattle.page.proofs.Heading.{formed}
 use mathlib.Core.Bool.{true, false}
 use Rattle.search.specs.Reply.{lent, tooShort}
-use Rattle.search.specs.Steps.{searchOf}
+use Rattle.search.specs.Running.{searchOf}
 use Rattle.search.proofs.Soundness.{image-sound}
 use Rattle.search.proofs.Handing.{long-enough, not-short, is-short, on-longer, no-source, short-table, goes-on}
 use borrow.Author.Needs.{needs}

@@ -3,7 +3,7 @@
 use mathlib.Core.Path.{_≡_, refl, sym, ap, _∙_}
 use denote.Ref.{now}
 use Rattle.page.specs.Image.{headingCheck, accepted, meaning}
-use Rattle.search.specs.Steps.{searchOf}
+use Rattle.search.specs.Running.{searchOf}
 use Rattle.search.proofs.Handing.{heading-good, heading-bad, no-bad-page}
 use borrow.Author.Needs.{needs}
 use Rattle.search.proofs.calls.search.Statement.{statement}

@@ -9,10 +9,11 @@ use Rattle.page.specs.Bytes.{Bytes}
 use Rattle.page.specs.Walk.{Threaded}
 use Rattle.page.proofs.Heading.{formed}
 use Rattle.relax.specs.Tables.{tables}
-use Rattle.search.specs.declared.Step.the-variants.{On}
+use Rattle.steps.specs.declared.Step.the-variants.{On}
 use Rattle.search.specs.Reply.{lent}
-use Rattle.search.specs.Steps.{standing, stepsOf, Begun}
-use Rattle.search.proofs.Noting.{known-none}
+use Rattle.steps.specs.Steps.{standing}
+use Rattle.search.specs.Running.{stepsOf, Begun}
+use Rattle.steps.proofs.Noting.{known-none}
 use Rattle.search.proofs.Soundness.{image-sound}
 use Rattle.search.proofs.Exact.{exact}
 use borrow.Author.Needs.{needs}

@@ -27,10 +27,10 @@ use Rattle.page.proofs.Promise.{promise}
 use Rattle.queue.specs.Queue.{nobody, Put, Queue}
 use Rattle.queue.proofs.Queue.{queue-settle}
 use Rattle.relax.specs.Tables.{frame, netMove, Tables, tables, stateOf, Does, DoesOn, Inside, Located}
-use Rattle.search.specs.declared.Step.the-variants.{On, Stopped}
-use Rattle.search.specs.Map.{mapFrame, mapPage}
-use Rattle.search.specs.Steps.{standing, visitOf, workOf, referring, Noted}
-use Rattle.search.proofs.Noting.{bytes-page}
+use Rattle.steps.specs.declared.Step.the-variants.{On, Stopped}
+use Rattle.steps.specs.Map.{mapFrame, mapPage}
+use Rattle.steps.specs.Steps.{standing, visitOf, workOf, referring, Noted}
+use Rattle.steps.proofs.Noting.{bytes-page}
 
 -- the queue after a station was settled
 pub settled-queue : (tree times marks : List ℕ) (u mark : ℕ) (tree′ marks′ : List ℕ) → Queue tree times marks

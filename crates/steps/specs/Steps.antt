@@ -2,24 +2,22 @@
 -- has noted of the pages read so far.
 use mathlib.Core.Path.{_≡_}
 use mathlib.Core.Bool.{Bool}
-use mathlib.Core.List.{List, map}
+use mathlib.Core.List.{List}
 use Prim.Native.Nat.{ℕ, _<_}
-use lib.ListN.{length, getD, set, take, replicate}
+use lib.ListN.{length, getD, take}
 use lib.Dec.{ltb}
 use Rattle.net.specs.Net.{Frame, Page}
 use Rattle.net.specs.Net.{Move as NetMove}
-use Rattle.net.specs.Net.{count as countBelow}
-use Rattle.net.specs.Search.{sourceMark, noPred, pick, State, Halt, going, refused, relaxAll, visit, workThrough, onPage, withPage, iter, stepBy, plainVisit, dfVisit, plainSearch, dfSearch}
+use Rattle.net.specs.Search.{pick, State, Halt, going, refused, relaxAll, visit, workThrough, onPage, withPage}
+use Rattle.net.specs.Search.{plainVisit, dfVisit}
 use Rattle.page.specs.declared.Move.{Move}
 use Rattle.page.specs.Image.{directoryOf, pageBytes}
 use Rattle.page.specs.Reading.{Leaving, good}
 use Rattle.page.specs.Check.{readingOf}
 use Rattle.page.specs.Walk.{movesAt, movesOf}
-use Rattle.relax.specs.Tables.{noTime, Tables, stateOf}
-use Rattle.search.specs.declared.Step.{Step}
-use Rattle.search.specs.declared.Step.the-variants.{On, Stopped}
-use Rattle.search.specs.Map.{mapFrame, mapPage}
-use Rattle.search.specs.Reply.{Reply, accepted, page-refused}
+use Rattle.relax.specs.Tables.{Tables, stateOf}
+use Rattle.steps.specs.declared.Step.{Step}
+use Rattle.steps.specs.declared.Step.the-variants.{On, Stopped}
 
 abbrev pub countOf : Step → ℕ
 countOf (On count) = count
@@ -46,38 +44,13 @@ abbrev pub referring : Bool → Frame → (ℕ → Page) → ℕ → State → S
 referring df F page u s =
     onPage (λ moves. workOf df u (F .pageOf u) moves F) (F .pageOf u) (page (F .pageOf u)) (withPage (F .pageOf u) s)
 
--- So many steps of either search on an image, with the one comparison.
-abbrev pub stepsOf : Bool → List ℕ → ℕ → State → State
-stepsOf df image n s = iter (stepBy (mapFrame image) (visitOf df (mapFrame image) (mapPage image))) n s
-
--- Either search by the letter.
-abbrev pub searchOf : Bool → Frame → (ℕ → Page) → ℕ → State
-searchOf df = pick df dfSearch plainSearch
-
--- The tables as a search begins.
-pub record Begun (source size : ℕ) (t : Tables) : Type 0 where
-  pub times : t .times ≡ set (replicate size noTime) source 0
-  pub preds : t .preds ≡ set (replicate size noPred) source sourceMark
-  pub marks : t .marks ≡ replicate size 0
-
--- The reply of a search that has ended so with these times, and the tables that it leaves.
-abbrev pub replyOf : Step → List ℕ → Reply
-replyOf (On count) times = accepted count (countBelow (λ v. ltb (getD times v noTime) noTime) (length times))
-replyOf (Stopped number page offset count) times = page-refused number page offset count
-
-abbrev pub Left : Step → Tables → Tables → Type 0
-Left (On count) t after =
-    (after .times ≡ t .times) × (after .preds ≡ t .preds) × (after .marks ≡ replicate (length (t .marks)) 0)
-Left (Stopped number page offset count) t after =
-    (after .times ≡ replicate (length (t .times)) noTime) × (after .preds ≡ replicate (length (t .preds)) noPred) ×
-    (after .marks ≡ replicate (length (t .marks)) 0)
-
 -- Page p of an image is good, and the noted offsets lead to the moves of its stations.
 pub record Noted (image : List ℕ) (p : ℕ) (starts : List ℕ) : Type 0 where
   pub moves : List Move
   pub stations : List Leaving
   pub reads : readingOf image p ≡ good moves stations
-  pub leads : (u : ℕ) → u < length (directoryOf image) → getD (directoryOf image) u 0 ≡ p → movesAt (pageBytes image p) (getD starts u 0) ≡ movesOf stations u
+  pub leads : (u : ℕ) → u < length (directoryOf image) → getD (directoryOf image) u 0 ≡ p
+      → movesAt (pageBytes image p) (getD starts u 0) ≡ movesOf stations u
 
 -- The pages that are marked as known are noted.
 pub record Known (image known starts : List ℕ) : Type 0 where

@@ -12,10 +12,10 @@ use Rattle.page.specs.Image.{directoryOf, pageBytes}
 use Rattle.page.specs.Check.{readingOf, verdictOf}
 use Rattle.page.specs.Walk.{Threaded, startsNoted, KeptOffPage}
 use Rattle.page.proofs.Judging.{never}
-use Rattle.search.proofs.Noting.{noted-verdict, noted-now, known-others, known-more, fetched}
+use Rattle.steps.proofs.Noting.{noted-verdict, noted-now, known-others, known-more, fetched}
 use borrow.Author.Needs.{needs}
-use Rattle.search.proofs.pages.fetch.Statement.{statement}
-use Rattle.search.proofs.pages.fetch.Tie as tie
+use Rattle.steps.proofs.pages.fetch.Statement.{statement}
+use Rattle.steps.proofs.pages.fetch.Tie as tie
 
 -- The place where the page has been read: the verdict is that on the page of the image, and what is noted is of it.
 module _ (read : tie.After-read-page) where

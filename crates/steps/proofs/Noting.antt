@@ -21,7 +21,7 @@ use Rattle.page.specs.Check.{readingOf, verdictOf}
 use Rattle.page.specs.Walk.{startsNoted, KeptOffPage}
 use Rattle.page.proofs.Judging.{never}
 use Rattle.page.proofs.Starts.{starts-found}
-use Rattle.search.specs.Steps.{Noted, Known}
+use Rattle.steps.specs.Steps.{Noted, Known}
 
 -- a part of bytes is bytes
 pub bytes-part : (s : List ℕ) (from count : ℕ) → Bytes s → Bytes (part s from count)

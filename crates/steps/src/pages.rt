@@ -7,7 +7,7 @@ ghost use Rattle.page.specs.declared.Verdict.the-variants.{Good};
 ghost use Rattle.page.specs.Image.{directoryOf};
 ghost use Rattle.page.specs.Check.{readingOf, verdictOf};
 ghost use Rattle.page.specs.Walk.{Threaded};
-ghost use Rattle.search.specs.Steps.{Noted, Known};
+ghost use Rattle.steps.specs.Steps.{Noted, Known};
 use page::Verdict;
 use page::image::directory_of;
 use page::image::page_of;

@@ -11,10 +11,10 @@ use Rattle.page.specs.declared.Move.{Move}
 use Rattle.page.specs.Image.{directoryOf, pageBytes}
 use Rattle.page.specs.Walk.{Threaded, movesAt}
 use Rattle.relax.specs.Tables.{Inside}
-use Rattle.search.proofs.Visiting.{start-inside, parts-inside, worked-plain, worked-df}
+use Rattle.steps.proofs.Visiting.{start-inside, parts-inside, worked-plain, worked-df}
 use borrow.Author.Needs.{needs}
-use Rattle.search.proofs.visits.work.Statement.{statement}
-use Rattle.search.proofs.visits.work.Tie as tie
+use Rattle.steps.proofs.visits.work.Statement.{statement}
+use Rattle.steps.proofs.visits.work.Tie as tie
 
 -- The place where the page and the start of the station's moves are known: the station is one of the map's.
 module _ (located : tie.After-start-of) where

@@ -3,10 +3,10 @@ use mathlib.Core.Path.{ap, _∙_}
 use Prim.Native.Nat.{_+_, _*_, _/_}
 use denote.Ref.{now}
 use lib.ListN.{set}
-use Rattle.search.proofs.Visiting.{settled-queue}
+use Rattle.steps.proofs.Visiting.{settled-queue}
 use borrow.Author.Needs.{needs}
-use Rattle.search.proofs.visits.settle.Statement.{statement}
-use Rattle.search.proofs.visits.settle.Tie as tie
+use Rattle.steps.proofs.visits.settle.Statement.{statement}
+use Rattle.steps.proofs.visits.settle.Tie as tie
 
 mark-at-requires : tie.Need-mark-at-requires
 mark-at-requires c κs = search needs

@@ -1,7 +1,7 @@
 -- In the DF search the comparison is the definition's test; in the plain search both are false.
 use borrow.Author.Needs.{needs}
-use Rattle.search.proofs.visits.needs_no_page.Statement.{statement}
-use Rattle.search.proofs.visits.needs_no_page.Tie as tie
+use Rattle.steps.proofs.visits.needs_no_page.Statement.{statement}
+use Rattle.steps.proofs.visits.needs_no_page.Tie as tie
 
 returns : tie.Need-returns
 returns c = rw (c .if1 .taken)

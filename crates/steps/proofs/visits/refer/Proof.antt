@@ -6,10 +6,10 @@ use denote.Ref.{now}
 use lib.ListN.{getD, set}
 use Rattle.page.specs.Bytes.{Bytes}
 use Rattle.page.specs.Image.{directoryOf}
-use Rattle.search.proofs.Visiting.{noted-inside, referred-good, referred-bad}
+use Rattle.steps.proofs.Visiting.{noted-inside, referred-good, referred-bad}
 use borrow.Author.Needs.{needs}
-use Rattle.search.proofs.visits.refer.Statement.{statement}
-use Rattle.search.proofs.visits.refer.Tie as tie
+use Rattle.steps.proofs.visits.refer.Statement.{statement}
+use Rattle.steps.proofs.visits.refer.Tie as tie
 
 -- The place where the page has been fetched: the byte read before is the page of the station.
 module _ (fetched : tie.After-fetch) where

@@ -3,10 +3,10 @@
 use mathlib.Core.Path.{refl}
 use native.Mathlib.Omega.{arith}
 use denote.Ref.{now}
-use Rattle.search.proofs.Visiting.{stepped-over, stepped-on, list-behind}
+use Rattle.steps.proofs.Visiting.{stepped-over, stepped-on, list-behind}
 use borrow.Author.Needs.{needs}
-use Rattle.search.proofs.visits.step.Statement.{statement}
-use Rattle.search.proofs.visits.step.Tie as tie
+use Rattle.steps.proofs.visits.step.Statement.{statement}
+use Rattle.steps.proofs.visits.step.Tie as tie
 
 -- The place where the station has been settled; whether a page is needed was judged before, by its mark.
 module _ (settled : tie.After-settle) where
