@@ -51,5 +51,10 @@ $(OUTSIDE): $(wildcard outside/src/*.rs outside/src/*/*.rs)
 	mkdir -p $(@D)
 	$(RUSTC) --crate-type rlib --crate-name outside -o $@ outside/src/lib.rs
 
-target/outside/%: $(OUTSIDE) libyard
-	$(RUSTC) --extern outside=$(OUTSIDE) -L target/staticlib -l static=yard -o $@ outside/$*/main.rs
+LINKED := --extern outside=$(OUTSIDE) -L target/staticlib -l static=yard
+
+target/outside/fuzz: $(OUTSIDE) $(wildcard outside/fuzz/*.rs) libyard
+	$(RUSTC) $(LINKED) -o $@ outside/fuzz/main.rs
+
+target/outside/bench: $(OUTSIDE) $(wildcard bench/*.rs) libyard
+	$(RUSTC) $(LINKED) -o $@ bench/main.rs

@@ -1,5 +1,5 @@
 //! The engine seen from outside: its C interface, an implementation of document 01 of its own to hold it against, and
-//! a generator of maps. The programs `fuzz.rs` and `bench.rs` are built on it. Nothing here is taken from the Rattle
+//! a generator of maps. The programs `outside/fuzz` and `bench` are built on it. Nothing here is taken from the Rattle
 //! code or from the Python generators in `tests/`: an error would have to be made twice to stay unseen.
 
 pub mod maps;

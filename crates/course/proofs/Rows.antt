@@ -1,14 +1,16 @@
--- The ten cases, as one computation: what the definitions answer, row by row, is the answer of document 01; and the law that
--- takes out a row.
+-- The ten cases, as one computation: what the definitions answer, row by row, is the answer of document 01; and the
+-- law that takes out a row.
 use mathlib.Core.Path.{_≡_, refl, ap}
 use mathlib.Core.List.{List, [], _∷_, map, List·Memᴰ, List·Memᴰ·head, List·Memᴰ·tail}
 use Prim.Native.Nat.{ℕ}
 use Rattle.net.specs.Net.{count, changes, onePageReads}
-use Rattle.net.specs.Search.{least, iter, reached, start, choose, chooseOn, readFor, relax, relaxAll, visit, workTurn, workThrough}
+use Rattle.net.specs.Search.{least, iter, reached, start, choose, chooseOn, readFor, relax, relaxAll, visit}
+use Rattle.net.specs.Search.{workTurn, workThrough}
 use Rattle.net.specs.Search.{plainVisit, dfVisit, stepBy, searchBy, plainSearch, dfSearch}
 use Rattle.page.specs.Bytes.{allZero}
 use Rattle.page.specs.Image.{directoryOf, pageBytes, firstNotBelow, headingCheck}
-use Rattle.page.specs.Reading.{commandAt, firstOn, nextOn, judgeEnd, judgeStation, judgeMove, judge, judgedAt, readFrom, readPage}
+use Rattle.page.specs.Reading.{commandAt, firstOn, nextOn, judgeEnd, judgeStation, judgeMove, judge, judgedAt}
+use Rattle.page.specs.Reading.{readFrom, readPage}
 use Rattle.page.specs.Check.{readingOf}
 use Rattle.page.specs.Walk.{movesOf}
 use Rattle.steps.specs.Map.{mapPage}
@@ -20,10 +22,14 @@ abbrev pub Holds : Case → Type 0
 Holds c = shown (c .question) (c .image) (c .source) ≡ c .answer
 
 table : map (λ (c : Case). shown (c .question) (c .image) (c .source)) cases ≡ map (λ (c : Case). c .answer) cases
-unfolding cases count changes onePageReads least iter reached start choose chooseOn readFor relax relaxAll visit workTurn workThrough plainVisit dfVisit stepBy searchBy plainSearch dfSearch allZero directoryOf pageBytes firstNotBelow headingCheck commandAt firstOn nextOn judgeEnd judgeStation judgeMove judge judgedAt readFrom readPage readingOf movesOf mapPage onMap searched chain outcome routeCall
+unfolding cases count changes onePageReads least iter reached start choose chooseOn readFor relax relaxAll visit
+    workTurn workThrough plainVisit dfVisit stepBy searchBy plainSearch dfSearch allZero directoryOf
+    pageBytes firstNotBelow headingCheck commandAt firstOn nextOn judgeEnd judgeStation judgeMove judge
+    judgedAt readFrom readPage readingOf movesOf mapPage onMap searched chain outcome routeCall
 table = refl
 
-by-rows : (rows : List Case) → map (λ (c : Case). shown (c .question) (c .image) (c .source)) rows ≡ map (λ (c : Case). c .answer) rows
+by-rows : (rows : List Case)
+    → map (λ (c : Case). shown (c .question) (c .image) (c .source)) rows ≡ map (λ (c : Case). c .answer) rows
     → (c : Case) → List·Memᴰ c rows → Holds c
 by-rows (r ∷ rows) e c (List·Memᴰ·head q) = rw q (cc)
 by-rows (r ∷ rows) e c (List·Memᴰ·tail m) = by-rows rows (cc) c m

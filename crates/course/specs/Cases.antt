@@ -1,5 +1,5 @@
--- The course maps as images, byte by byte, and the ten cases as a table: a map, a source and a question, and the answer of
--- document 01.
+-- The course maps as images, byte by byte, and the ten cases as a table: a map, a source and a question, and the
+-- answer of document 01.
 use mathlib.Core.List.{List, [], _∷_, _++_}
 use Prim.Native.Nat.{ℕ}
 use lib.ListN.{length, getD, take, replicate}
@@ -13,7 +13,8 @@ use Rattle.route.specs.Route.{Handed as RouteHanded, Answer, stations, unreache
 abbrev paged : List ℕ → List ℕ
 paged bytes = take 256 (bytes ++ replicate 256 0)
 
--- "M7: stations 0 to 3 on page 0, 4 to 6 on page 1; from-target/time: 0-1/4, 0-4/2, 1-2/3, 2-3/3, 3-5/3, 4-2/1, 4-5/6, 5-6/1."
+-- "M7: stations 0 to 3 on page 0, 4 to 6 on page 1; from-target/time: 0-1/4, 0-4/2, 1-2/3, 2-3/3, 3-5/3, 4-2/1,
+-- 4-5/6, 5-6/1."
 abbrev m7Heading : List ℕ
 m7Heading = 7 ∷ 0 ∷ 2 ∷ 0 ∷ 0 ∷ 0 ∷ 0 ∷ 0 ∷ 1 ∷ 1 ∷ 1 ∷ []
 
@@ -55,8 +56,9 @@ diamond =
 abbrev pub apart : List ℕ
 apart = 2 ∷ 0 ∷ 2 ∷ 0 ∷ 0 ∷ 1 ∷ (paged (1 ∷ 0 ∷ 0 ∷ []) ++ paged (7 ∷ []))
 
--- What is asked of a map and a source: times and predecessors; times and list; the list of either search and its one-page
--- reads; the number reached, or the refusal, and the list; one station's time and predecessor; the route to a station.
+-- What is asked of a map and a source: times and predecessors; times and list; the list of either search and its
+-- one-page reads; the number reached, or the refusal, and the list; one station's time and predecessor; the route to
+-- a station.
 pub data Question : Type 0 where
   tables timesAndList ourList dijkstrasList replyAndList : Question
   timeAndPredecessor routeTo : ℕ → Question
@@ -69,7 +71,7 @@ pub record Case : Type 0 where
 
 -- The search on tables of as many entries as the map has stations.
 abbrev lentFor : List ℕ → Lent
-lentFor image = lent (replicate (stationCount image) 9) (replicate (stationCount image) 9) (replicate (stationCount image) 9) (replicate (stationCount image) 9)
+lentFor image = let nines = replicate (stationCount image) 9 in lent nines nines nines nines
 
 abbrev placeNumbers : Place → List ℕ
 placeNumbers nowhere = []
@@ -94,13 +96,16 @@ listAndReads list = list ++ (onePageReads list ∷ [])
 
 -- What the definitions answer.
 abbrev pub shown : Question → List ℕ → ℕ → List ℕ
-shown tables image source = let h = searched dfSearch image source (lentFor image) in h .tables .times ++ h .tables .preds
+shown tables image source =
+    let h = searched dfSearch image source (lentFor image) in h .tables .times ++ h .tables .preds
 shown ourList image source = listAndReads (listOf (searched dfSearch image source (lentFor image)))
 shown dijkstrasList image source = listAndReads (listOf (searched plainSearch image source (lentFor image)))
 shown timesAndList image source = let h = searched dfSearch image source (lentFor image) in h .tables .times ++ listOf h
-shown replyAndList image source = let h = searched dfSearch image source (lentFor image) in replyNumbers (h .reply) ++ listOf h
+shown replyAndList image source =
+    let h = searched dfSearch image source (lentFor image) in replyNumbers (h .reply) ++ listOf h
 shown (timeAndPredecessor v) image source =
-    let h = searched dfSearch image source (lentFor image) in getD (h .tables .times) v 0 ∷ getD (h .tables .preds) v 0 ∷ []
+    let h = searched dfSearch image source (lentFor image) in
+    getD (h .tables .times) v 0 ∷ getD (h .tables .preds) v 0 ∷ []
 shown (routeTo v) image source =
     let h = searched dfSearch image source (lentFor image) in
     routeShown (routeCall (h .tables .preds) v (replicate (stationCount image) 9))

@@ -13,7 +13,8 @@ module _ (F : Frame) (page : ℕ → Page) (source : ℕ) where
   -- The predecessors lead from v to the source in k steps, along a walk of cost c.
   pub data Spells (preds : List ℕ) : ℕ → ℕ → ℕ → Type 0 where
     at-source : getD preds source noPred ≡ sourceMark → Spells preds source 0 0
-    step : {u k c : ℕ} (v w : ℕ) → getD preds v noPred ≡ u → Goes F page u v w → Spells preds u k c → Spells preds v (suc k) (c + w)
+    step : {u k c : ℕ} (v w : ℕ) → getD preds v noPred ≡ u → Goes F page u v w → Spells preds u k c
+        → Spells preds v (suc k) (c + w)
 
   -- Demand 2, of the first N entries of two tables and the number of stations reached.
   pub record LeastTimes (times preds : List ℕ) (reached : ℕ) : Type 0 where
@@ -23,10 +24,14 @@ module _ (F : Frame) (page : ℕ → Page) (source : ℕ) where
     pub least : (v c : ℕ) → Walk F page source v c → getD times v (F .none) ≤ c
     -- a station has no time exactly when no walk leads there
     pub timed : (v c : ℕ) → Walk F page source v c → getD times v (F .none) < F .none
-    pub untimed : (v : ℕ) → F .none ≤ getD times v (F .none) → (getD times v (F .none) ≡ F .none) × (getD preds v noPred ≡ noPred)
-    -- the predecessors spell out a walk of that time, and each is the lowest station whose time plus move gives the time
-    pub spells : (v : ℕ) → getD times v (F .none) < F .none → (k : ℕ) × (k < F .size) × Spells preds v k (getD times v (F .none))
-    pub lowest : (u v w : ℕ) → v ≢ source → Goes F page u v w → getD times u (F .none) + w ≡ getD times v (F .none) → getD preds v noPred ≤ u
+    pub untimed : (v : ℕ) → F .none ≤ getD times v (F .none)
+        → (getD times v (F .none) ≡ F .none) × (getD preds v noPred ≡ noPred)
+    -- the predecessors spell out a walk of that time, and each is the lowest station whose time plus move gives the
+    -- time
+    pub spells : (v : ℕ) → getD times v (F .none) < F .none
+        → (k : ℕ) × (k < F .size) × Spells preds v k (getD times v (F .none))
+    pub lowest : (u v w : ℕ) → v ≢ source → Goes F page u v w
+        → getD times u (F .none) + w ≡ getD times v (F .none) → getD preds v noPred ≤ u
     pub count : reached ≡ count (λ v. ltb (getD times v (F .none)) (F .none)) (F .size)
 
   -- Which page is refused: that of the station, of all on bad pages, least by cost and then number over walks.
@@ -36,7 +41,8 @@ module _ (F : Frame) (page : ℕ → Page) (source : ℕ) where
     pub walk : Walk F page source station cost
     pub on : F .pageOf station ≡ p
     pub why : page p ≡ bad number offset
-    pub first : (v c : ℕ) → Walk F page source v c → isGood (page (F .pageOf v)) ≡ false → (cost ≤ c) × (c ≤ cost → station ≤ v)
+    pub first : (v c : ℕ) → Walk F page source v c → isGood (page (F .pageOf v)) ≡ false
+        → (cost ≤ c) × (c ≤ cost → station ≤ v)
 
   -- Demand 3, of our list and Dijkstra's.
   pub record ListOf (ours dijkstras : List ℕ) : Type 0 where

@@ -9,12 +9,14 @@ pub record Move : Type 0 where
   pub target : ℕ
   pub weight : ℕ
 
--- What reading a page gives: the moves of each of its stations in page order, or the number and the offset of its refusal.
+-- What reading a page gives: the moves of each of its stations in page order, or the number and the offset of its
+-- refusal.
 pub data Page : Type 0 where
   good : (ℕ → List Move) → Page
   bad : ℕ → ℕ → Page
 
--- What is known before a page is read: the number of stations, the page of each, and the number that stands for no time.
+-- What is known before a page is read: the number of stations, the page of each, and the number that stands for no
+-- time.
 pub record Frame : Type 0 where
   pub size : ℕ
   pub pageOf : ℕ → ℕ
@@ -33,8 +35,8 @@ movesOf (bad number offset) u = []
 abbrev pub Goes : Frame → (ℕ → Page) → ℕ → ℕ → ℕ → Type 0
 Goes F page u v w = List·Memᴰ (record { target = v; weight = w }) (movesOf (page (F .pageOf u)) u)
 
--- `Walk F page source v c`: a walk from the source to v of cost c. It may be empty, may repeat stations, and leaves only
--- stations on good pages.
+-- `Walk F page source v c`: a walk from the source to v of cost c. It may be empty, may repeat stations, and leaves
+-- only stations on good pages.
 pub data Walk (F : Frame) (page : ℕ → Page) (source : ℕ) : ℕ → ℕ → Type 0 where
   here : Walk F page source source 0
   onward : {u c : ℕ} (v w : ℕ) → Walk F page source u c → Goes F page u v w → Walk F page source v (c + w)
@@ -59,7 +61,9 @@ movesTo v (m ∷ moves) = one (eqb v (m .target)) + movesTo v moves
 -- 01, entry station: v is the source, or the target of a move from a station on another listed page; it counts once.
 module _ (F : Frame) (page : ℕ → Page) (source : ℕ) (list : List ℕ) where
   unfoldable pub entersFrom : ℕ → ℕ → Bool
-  entersFrom v u = ltb 0 (timesIn (F .pageOf u) list) && (not (eqb (F .pageOf u) (F .pageOf v)) && ltb 0 (movesTo v (movesOf (page (F .pageOf u)) u)))
+  entersFrom v u =
+      ltb 0 (timesIn (F .pageOf u) list) &&
+      (not (eqb (F .pageOf u) (F .pageOf v)) && ltb 0 (movesTo v (movesOf (page (F .pageOf u)) u)))
 
   unfoldable pub isEntry : ℕ → Bool
   isEntry v = eqb v source || ltb 0 (count (entersFrom v) (F .size))

@@ -47,7 +47,8 @@ isFresh s v = leb 2 (markOf s v)
 
 -- The state with other tables, with v settled, with v fresh, with one more reference, and ended by a bad page.
 abbrev pub withTables : List ℕ → List ℕ → List ℕ → State → State
-withTables times preds marks s = record { times = times; preds = preds; marks = marks; pages = s .pages; halt = s .halt }
+withTables times preds marks s =
+    record { times = times; preds = preds; marks = marks; pages = s .pages; halt = s .halt }
 
 abbrev pub settle : ℕ → State → State
 settle v s = withTables (s .times) (s .preds) (set (s .marks) v (markOf s v / 2 * 2 + 1)) s
@@ -56,7 +57,8 @@ abbrev pub markFresh : ℕ → State → State
 markFresh v s = withTables (s .times) (s .preds) (set (s .marks) v (markOf s v % 2 + 2)) s
 
 abbrev pub withPage : ℕ → State → State
-withPage p s = record { times = s .times; preds = s .preds; marks = s .marks; pages = s .pages ++ (p ∷ []); halt = s .halt }
+withPage p s =
+    record { times = s .times; preds = s .preds; marks = s .marks; pages = s .pages ++ (p ∷ []); halt = s .halt }
 
 abbrev pub withHalt : Halt → State → State
 withHalt h s = record { times = s .times; preds = s .preds; marks = s .marks; pages = s .pages; halt = h }
@@ -124,11 +126,12 @@ readFor F page u work s = onPage work (F .pageOf u) (page (F .pageOf u)) (withPa
 
 -- The steps, over the comparison of a sum with the time that a station has: `less sum time`.
 module _ (F : Frame) (less : ℕ → ℕ → Bool) where
-  -- ".. v gets sum and predecessor u, and v is not fresh. If sum equals v's time and u is below v's predecessor, only the
-  -- predecessor becomes u."
+  -- ".. v gets sum and predecessor u, and v is not fresh. If sum equals v's time and u is below v's predecessor, only
+  -- the predecessor becomes u."
   abbrev pub relaxTo : ℕ → ℕ → ℕ → State → State
   relaxTo u v sum s =
-      pick (less sum (timeOf F s v)) (withTables (set (s .times) v sum) (set (s .preds) v u) (set (s .marks) v (markOf s v % 2)) s)
+      pick (less sum (timeOf F s v))
+      (withTables (set (s .times) v sum) (set (s .preds) v u) (set (s .marks) v (markOf s v % 2)) s)
       (pick (eqb sum (timeOf F s v) && ltb u (predOf s v)) (withTables (s .times) (set (s .preds) v u) (s .marks) s) s)
 
   -- "Relax a move from u to v: sum = time of u + move time."
@@ -155,10 +158,12 @@ module _ (F : Frame) (less : ℕ → ℕ → Bool) where
     unfoldable pub plainVisit : ℕ → State → State
     plainVisit u s = readFor F page u (λ moves. relaxAll u (moves u)) s
 
-    -- DF step: "If the station is fresh, the step is over. Otherwise append its page, read it, mark the station fresh and
-    -- relax its moves. Then, while this page has a station .."
+    -- DF step: "If the station is fresh, the step is over. Otherwise append its page, read it, mark the station fresh
+    -- and relax its moves. Then, while this page has a station .."
     unfoldable pub dfVisit : ℕ → State → State
-    dfVisit u s = pick (isFresh s u) (settle u s) (readFor F page u (λ moves t. workThrough (F .pageOf u) moves (visit moves u t)) s)
+    dfVisit u s =
+        pick (isFresh s u) (settle u s)
+        (readFor F page u (λ moves t. workThrough (F .pageOf u) moves (visit moves u t)) s)
 
 -- A step of either search, and the whole search, which never takes more steps than there are stations.
 module _ (F : Frame) (visitOf : ℕ → State → State) where

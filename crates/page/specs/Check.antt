@@ -22,7 +22,8 @@ pageOutcome p (bad number offset) following = refused number (on-page p offset)
 -- So many pages by rising number, from page p on.
 unfoldable pub pagesFrom : List ℕ → ℕ → ℕ → Outcome
 pagesFrom image zero p = accepted
-pagesFrom image (suc count) p = let following = pagesFrom image count (suc p) in pageOutcome p (readingOf image p) following
+pagesFrom image (suc count) p =
+    let following = pagesFrom image count (suc p) in pageOutcome p (readingOf image p) following
 
 abbrev pub afterHeading : Outcome → Outcome → Outcome
 afterHeading accepted following = following

@@ -31,9 +31,9 @@ firstOn p (d ∷ ds) = let rest = suc (firstOn p ds) in pick (eqb d p) 0 rest
 unfoldable pub nextOn : List ℕ → ℕ → ℕ → ℕ
 nextOn directory p from = from + firstOn p (drop from directory)
 
--- The rules at one command, behind 8 and 9: each gives the command itself, or the number of its fault. `size` is N, `due`
--- the next station of the page (N where none is left), `after` 1 more than the latest station (0 where there is none yet),
--- and `least` the least target that still rises.
+-- The rules at one command, behind 8 and 9: each gives the command itself, or the number of its fault. `size` is N,
+-- `due` the next station of the page (N where none is left), `after` 1 more than the latest station (0 where there is
+-- none yet), and `least` the least target that still rises.
 
 -- "for `00`: 10 if a station is still missing, then 14"
 unfoldable pub judgeEnd : ℕ → ℕ → List ℕ → Command
@@ -80,8 +80,8 @@ abbrev pub withStation : ℕ → Reading → Reading
 withStation v (good moves stations) = good [] (record { station = v; moves = moves } ∷ stations)
 withStation v (bad number offset) = bad number offset
 
--- "reading stops at the first command at fault and gives its offset". Each command takes a byte or more, so that a page has
--- at most as many commands as bytes, and one more finds its end.
+-- "reading stops at the first command at fault and gives its offset". Each command takes a byte or more, so that a
+-- page has at most as many commands as bytes, and one more finds its end.
 module _ (directory : List ℕ) (p : ℕ) (page : List ℕ) where
   unfoldable pub readFrom : ℕ → ℕ → ℕ → ℕ → Reading
   readFrom zero at after least = bad 9 at

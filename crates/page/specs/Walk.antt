@@ -20,8 +20,8 @@ pub record Threaded (directory first next : List ℕ) : Type 0 where
   pub first-on : (p : ℕ) → p < 256 → getD first p 0 ≡ nextOn directory p 0
   pub next-on : (v : ℕ) → v < length directory → getD next v 0 ≡ nextOn directory (getD directory v 0) (v + 1)
 
--- The stations and moves that stand from an offset on, up to an end or a fault: a station with the offset behind it, where
--- its moves begin, or a move.
+-- The stations and moves that stand from an offset on, up to an end or a fault: a station with the offset behind it,
+-- where its moves begin, or a move.
 pub data Item : Type 0 where
   station : ℕ → ℕ → Item
   move : Move → Item

@@ -1,5 +1,5 @@
-// The map image (01, "Map image"): heading, directory, page reader and whole check. This is the only crate that looks at
-// the bytes of a page; what lies above it works with a page's content.
+// The map image (01, "Map image"): heading, directory, page reader and whole check. This is the only crate that looks
+// at the bytes of a page; what lies above it works with a page's content.
 
 pub mod bytes;
 pub mod commands;

@@ -44,8 +44,8 @@ fn sibling(i: usize) -> usize
     2 * (i / 2) + 1 - i % 2
 }
 
-// The key of station v becomes `key`. The nodes above it follow, up to the first that stays as it is; `least` is what node
-// i holds, so that a turn waits for no node but the sibling.
+// The key of station v becomes `key`. The nodes above it follow, up to the first that stays as it is; `least` is what
+// node i holds, so that a turn waits for no node but the sibling.
 pub fn put(tree: &mut [u64], v: usize, key: u64)
     requires station { ⌜ v < 2048 ⌝ }
     requires nodes { ⌜ Tree (now tree) ⌝ }

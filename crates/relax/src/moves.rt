@@ -45,8 +45,8 @@ fn lower(
     queue::put(tree, v, key);
 }
 
-// Relaxes a move of station u. None is above every sum, so that one comparison says "no time, or less"; the sum is formed
-// in 64 bits, where it cannot wrap.
+// Relaxes a move of station u. None is above every sum, so that one comparison says "no time, or less"; the sum is
+// formed in 64 bits, where it cannot wrap.
 pub fn relax_move(
     times: &mut [u32],
     preds: &mut [u16],

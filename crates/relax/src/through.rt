@@ -1,5 +1,6 @@
 // A page worked through: while it has a station that has a time and is not fresh, the one of least time, then lowest
-// number, is marked fresh and its moves are relaxed. Only the page's own stations are looked at, by the threaded directory.
+// number, is marked fresh and its moves are relaxed. Only the page's own stations are looked at, by the threaded
+// directory.
 
 ghost use mathlib.Core.Path.{_≡_};
 ghost use mathlib.Core.Bool.{not, _&&_};

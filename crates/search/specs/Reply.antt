@@ -52,9 +52,9 @@ returned answer t p m l = handed (meaning answer) (lent t p m l)
 abbrev pub over : List ℕ → List ℕ → List ℕ
 over front table = front ++ drop (length front) table
 
--- How a search that has ended leaves the tables: "times ..; predecessors ..; marks 0. The list holds count entries; its
--- others keep their bytes. Page refusal: times all none, predecessors all 65,535, marks 0, the list holds the references
--- made".
+-- How a search that has ended leaves the tables: "times ..; predecessors ..; marks 0. The list holds count entries;
+-- its others keep their bytes. Page refusal: times all none, predecessors all 65,535, marks 0, the list holds the
+-- references made".
 abbrev pub ended : Halt → Frame → State → Lent → Handed
 ended going F s t =
     handed (accepted (length (s .pages)) (reached F s))

@@ -1,6 +1,6 @@
-// The two public searches. Each takes an image, a source and four lent tables: times, predecessors, marks and page list,
-// with an entry for each station at least. What they promise stands in specs/Reply.antt (the whole outcome, refusals too)
-// and specs/Promises.antt (demands 2 and 3).
+// The two public searches. Each takes an image, a source and four lent tables: times, predecessors, marks and page
+// list, with an entry for each station at least. What they promise stands in specs/Reply.antt (the whole outcome,
+// refusals too) and specs/Promises.antt (demands 2 and 3).
 
 ghost use mathlib.Core.Path.{_≡_};
 ghost use mathlib.Core.Bool.{not, _||_};

@@ -1,5 +1,5 @@
-// Both searches over whole maps: the plain search (Dijkstra's) and the DF search (01, "The two searches"). They work on the
-// page reader's promise and look at no byte of a page.
+// Both searches over whole maps: the plain search (Dijkstra's) and the DF search (01, "The two searches"). They work
+// on the page reader's promise and look at no byte of a page.
 
 pub mod calls;
 mod run;

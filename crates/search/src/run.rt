@@ -27,7 +27,8 @@ use steps::visits::step;
 // The predecessor of the source.
 const SOURCE: u16 = 65534;
 
-// Steps until nobody is left to settle or a bad page ends the search; no search takes more steps than there are stations.
+// Steps until nobody is left to settle or a bad page ends the search; no search takes more steps than there are
+// stations.
 fn run(
     df: bool,
     image: &[u8],

@@ -1,5 +1,5 @@
--- How the code stands in the midst of a search: its tables, list and count as a state of the net's searches, and what it
--- has noted of the pages read so far.
+-- How the code stands in the midst of a search: its tables, list and count as a state of the net's searches, and what
+-- it has noted of the pages read so far.
 use mathlib.Core.Path.{_≡_}
 use mathlib.Core.Bool.{Bool}
 use mathlib.Core.List.{List}

@@ -1,5 +1,5 @@
-// One step of either search over a whole map (01, "The two searches"): the page of the station chosen is fetched, and its
-// moves are relaxed. It works on the page reader's promise and looks at no byte of a page.
+// One step of either search over a whole map (01, "The two searches"): the page of the station chosen is fetched, and
+// its moves are relaxed. It works on the page reader's promise and looks at no byte of a page.
 
 pub mod pages;
 pub mod visits;

@@ -36,7 +36,8 @@ ofRoute (stations count) = numbers 0 count 0 0 0
 ofRoute unreached = numbers 0 0 0 0 0
 ofRoute (turnedDown number) = numbers number 0 0 0 0
 
--- What a call returns and leaves in the answer: "Where answer has four entries or more, the first four get" the numbers.
+-- What a call returns and leaves in the answer: "Where answer has four entries or more, the first four get" the
+-- numbers.
 pub record Told : Type 0 where
   pub status : ℕ
   pub answer : List ℕ

@@ -1,6 +1,6 @@
-// The C interface (include/yard.h): each call of the engine as a C function. A slice passes as a pointer and a length in
-// entries. What a call answers becomes its status and the four numbers of `answer` (specs/Numbers.antt); what it does to
-// the lent tables is what the engine's call does.
+// The C interface (include/yard.h): each call of the engine as a C function. A slice passes as a pointer and a length
+// in entries. What a call answers becomes its status and the four numbers of `answer` (specs/Numbers.antt); what it
+// does to the lent tables is what the engine's call does.
 
 ghost use mathlib.Core.Path.{_≡_};
 ghost use Rattle.net.specs.Search.{plainSearch, dfSearch};

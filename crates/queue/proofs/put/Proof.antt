@@ -64,7 +64,8 @@ returns : tie.Need-returns Inv-loop μ-loop
 returns c =
     let turn = in-turn (c .before .before) in
     let start = turn .before .before in
-    rising-end _ _ _ _ _ _ (start .pre .0) (start .pre .1) (turn .loop .inv) (λ _. c .if1 .taken ∙ lesser-of-both (c .before .before))
+    rising-end _ _ _ _ _ _ (start .pre .0) (start .pre .1) (turn .loop .inv)
+    (λ _. c .if1 .taken ∙ lesser-of-both (c .before .before))
 
 mul-tree-2 : tie.Need-mul-tree-2 Inv-loop μ-loop
 mul-tree-2 c = search needs

@@ -35,7 +35,9 @@ same-length c = search needs
 
 returns : tie.Need-returns
 returns c =
-    let told = c .before .before in told .tell .ensures ∙ ap (λ n. toldBy n (now (entry (told .before .before) .args .answer))) (numbered (told .before .before))
+    let told = c .before .before in
+    let here = told .before .before in
+    told .tell .ensures ∙ ap (λ n. toldBy n (now (entry here .args .answer))) (numbered here)
 
 pub yard-check-spec : {M : Type 1} → statement M
 yard-check-spec =

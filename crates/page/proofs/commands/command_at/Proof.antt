@@ -1,5 +1,5 @@
--- By the cases of the code (proofs/Lengths.antt): past the page, a known code whose command ends within the page or does
--- not, and an unknown code.
+-- By the cases of the code (proofs/Lengths.antt): past the page, a known code whose command ends within the page or
+-- does not, and an unknown code.
 use mathlib.Core.Path.{sym, _∙_}
 use native.Mathlib.Omega.{arith}
 use denote.Ref.{now}

@@ -1,6 +1,6 @@
 -- Both loops keep `Left`: what is left to read from the offset `at` on decides the verdict on the page. Each arm of
--- the match is one step of the definition (proofs/Left.antt); at a station the thread tells which one is due next. Beside
--- it they keep `Noting`: what is left to note (proofs/Starts.antt).
+-- the match is one step of the definition (proofs/Left.antt); at a station the thread tells which one is due next.
+-- Beside it they keep `Noting`: what is left to note (proofs/Starts.antt).
 use mathlib.Core.Path.{_≡_, refl, sym, _∙_}
 use mathlib.Core.List.{List}
 use native.Mathlib.Omega.{arith}

@@ -19,7 +19,9 @@ mul-v : tie.Need-mul-v Inv-loop μ-loop
 mul-v c = omega (arith, c .before .before .before .before .before .fits .p)
 
 shared-slice-read-v : tie.Need-shared-slice-read-v Inv-loop μ-loop
-shared-slice-read-v c = let entry = c .before .before .before .before .before .before in omega (arith, entry .pre .1 .pages, entry .fits .p)
+shared-slice-read-v c =
+    let entry = c .before .before .before .before .before .before in
+    omega (arith, entry .pre .1 .pages, entry .fits .p)
 
 cast-v : tie.Need-cast-v Inv-loop μ-loop
 cast-v c = omega (arith, c .shared-slice-known6 .given (c .before .before .before .before .before .before .args .p))
@@ -32,13 +34,17 @@ loop-holds c =
     (entry .pre .1) (entry .pre .0) (omega (arith, entry .fits .p))
 
 considered-requires : tie.Need-considered-requires Inv-loop μ-loop
-considered-requires c κs = let entry = c .before .before .before .before .before .before .before .before in omega (arith, entry .pre .0, c .loop-test .taken)
+considered-requires c κs =
+    let entry = c .before .before .before .before .before .before .before .before in
+    omega (arith, entry .pre .0, c .loop-test .taken)
 
 mul-v-2 : tie.Need-mul-v-2 Inv-loop μ-loop
 mul-v-2 c = omega arith
 
 shared-slice-read-v-2 : tie.Need-shared-slice-read-v-2 Inv-loop μ-loop
-shared-slice-read-v-2 c = let entry = c .before .before .before .before .before .before .before .before .before .before in omega (arith, entry .pre .1 .stations)
+shared-slice-read-v-2 c =
+    let entry = c .before .before .before .before .before .before .before .before .before .before in
+    omega (arith, entry .pre .1 .stations)
 
 cast-v-2 : tie.Need-cast-v-2 Inv-loop μ-loop
 cast-v-2 c = omega (arith, c .shared-slice-known7 .given (c .before .before .before .loop .v))

@@ -59,7 +59,8 @@ module _ (read : tie.After-read-page) where
 
   others : KeptOffPage (directoryOf image) p starts after
   others =
-      subst (λ d. KeptOffPage d p starts after) (directory-found .directory-of .ensures) (read .read-page .ensures .1 .1)
+      subst (λ d. KeptOffPage d p starts after) (directory-found .directory-of .ensures)
+      (read .read-page .ensures .1 .1)
 
 slice-read-if1 : tie.Need-slice-read-if1
 slice-read-if1 c = search needs

@@ -34,7 +34,12 @@ slice-write-answer-3 : tie.Need-slice-write-answer-3
 slice-write-answer-3 c =
     let a = c .before .before .before .before .args in
     let l = now (a .answer) in
-    omega (arith, length-set l 0 (a .n .count), length-set (set l 0 (a .n .count)) 1 (a .n .reached), c .before .before .before .if1 .left)
+    omega (
+      arith,
+      length-set l 0 (a .n .count),
+      length-set (set l 0 (a .n .count)) 1 (a .n .reached),
+      c .before .before .before .if1 .left,
+    )
 
 cast-answer-4 : tie.Need-cast-answer-4
 cast-answer-4 c = search needs
@@ -50,7 +55,9 @@ same-length c = search needs
 
 returns-2 : tie.Need-returns-2
 returns-2 c =
-    let if1 = c .before .before .before .before .before in put-four (if1 .before .args .n) (now (if1 .before .args .answer)) (if1 .if1 .left)
+    let long = c .before .before .before .before .before in
+    let a = long .before .args in
+    put-four (a .n) (now (a .answer)) (long .if1 .left)
 
 pub tell-spec : {M : Type 1} → statement M
 tell-spec =

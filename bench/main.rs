@@ -1,22 +1,25 @@
 //! The benchmark: both searches and the whole check from image bytes through the C interface, against Dijkstra's
-//! search as one writes it in Rust without proofs (`baseline.rs`), from the same bytes. Prints Markdown tables.
+//! search as one writes it in Rust without proofs, straightforward and tuned (`baseline.rs`), from the same bytes.
+//! Prints Markdown tables.
 
 mod baseline;
 mod full;
 mod rounds;
 mod timing;
 
+use baseline::Joined;
 use full::{Layout, Pace, Reach, Shape};
 use outside::yard;
 use rounds::{Measured, ROUNDS, WARM_UP};
 use std::time::Instant;
 use timing::{ratios, Spread};
 
-const COLUMNS: &str = "Baseline | Packed | Plain | DF | Plain to baseline | to packed | DF to baseline | to packed";
+const COLUMNS: &str =
+    "Straightforward | Tuned | Plain | DF | Plain to straightforward | to tuned | DF to straightforward | to tuned";
 
 fn main() {
-    println!("Times in microseconds: medians of {ROUNDS} rounds (first to third quartile). The baseline's heap has");
-    println!("the keys (time, station), \"packed\" both in one word. Ratios are taken round by round.\n");
+    println!("Times in microseconds: medians of {ROUNDS} rounds (first to third quartile). The two baselines are");
+    println!("Dijkstra's search in Rust, straightforward and tuned. Ratios are taken round by round.\n");
     searches_on_full_maps();
     growth();
     whole_check();
@@ -74,16 +77,16 @@ fn growth() {
     }
 }
 
-/// The whole check against the baseline's parser, which makes the same checks and keeps the moves.
+/// The whole check against the tuned baseline's parser, which makes the same checks and keeps the moves.
 fn whole_check() {
-    println!("\n| Full map | Baseline's parser | Whole check | Ratio |");
+    println!("\n| Full map | Tuned parser | Whole check | Ratio |");
     println!("|---|---|---|---|");
     for (name, shape) in [full_shapes()[0], full_shapes()[6]] {
         let image = shape.draw().image();
         let (mut parsed, mut checked) = (Vec::new(), Vec::new());
         for round in 0..ROUNDS + WARM_UP {
             let mut calls: [(&mut Vec<f64>, &dyn Fn() -> bool); 2] = [
-                (&mut parsed, &|| baseline::parse(&image).is_some()),
+                (&mut parsed, &|| baseline::parse::<Joined>(&image).is_some()),
                 (&mut checked, &|| yard::check(&image, &mut [0; 4]) == 0),
             ];
             calls.rotate_left(round % 2);

@@ -1,7 +1,7 @@
 //! Rounds on one map. Each round calls both baselines and both searches on one source, in turning order, so that the
 //! machine's noise hits all alike, and compares what they found.
 
-use crate::baseline;
+use crate::baseline::{self, Joined};
 use crate::timing::{ratios, Spread};
 use outside::random::Random;
 use outside::reference::lists::one_page_reads;
@@ -13,8 +13,8 @@ pub const ROUNDS: usize = 600;
 pub const WARM_UP: usize = 30;
 
 /// Who is called, by index.
-const BASELINE: usize = 0;
-const PACKED: usize = 1;
+const STRAIGHT: usize = 0;
+const TUNED: usize = 1;
 const PLAIN: usize = 2;
 const DF: usize = 3;
 const CALLERS: usize = 4;
@@ -43,8 +43,8 @@ impl Kept {
     fn call(&mut self, who: usize, image: &[u8], source: u16) {
         let Kept { times, preds, marks, list, .. } = self;
         let found = match who {
-            BASELINE => baseline::search::<(u32, u16)>(image, source, times, preds, list),
-            PACKED => baseline::search::<u64>(image, source, times, preds, list),
+            STRAIGHT => baseline::search::<Vec<Vec<_>>, (u32, u16)>(image, source, times, preds, list),
+            TUNED => baseline::search::<Joined, u64>(image, source, times, preds, list),
             _ => {
                 let kind = if who == DF { Search::Df } else { Search::Plain };
                 let mut answer = [0; 4];
@@ -100,16 +100,16 @@ impl Measured {
     /// The cells of a table's row: four times and four ratios.
     pub fn cells(&self) -> String {
         let ratio = |(who, to): (usize, usize)| Spread::new(&ratios(&self.times[who], &self.times[to]));
-        let times = [BASELINE, PACKED, PLAIN, DF].map(|who| format!("{:.0}", Spread::new(&self.times[who])));
-        let pairs = [(PLAIN, BASELINE), (PLAIN, PACKED), (DF, BASELINE), (DF, PACKED)];
+        let times = [STRAIGHT, TUNED, PLAIN, DF].map(|who| format!("{:.0}", Spread::new(&self.times[who])));
+        let pairs = [(PLAIN, STRAIGHT), (PLAIN, TUNED), (DF, STRAIGHT), (DF, TUNED)];
         [times, pairs.map(|pair| format!("{:.2}", ratio(pair)))].concat().join(" | ")
     }
 }
 
 /// A measurement counts only if all found the same: times, predecessors, stations reached, and all but DF the list.
 fn compare(kept: &[Kept; CALLERS]) {
-    let one = &kept[BASELINE];
-    for who in [PACKED, PLAIN, DF] {
+    let one = &kept[STRAIGHT];
+    for who in [TUNED, PLAIN, DF] {
         let other = &kept[who];
         assert!(one.times == other.times && one.preds == other.preds, "other times or predecessors");
         assert!(one.reached == other.reached, "another number reached");
