@@ -1,4 +1,4 @@
-.PHONY: run test cases coils-test c-example fuzz bench libyard
+.PHONY: run test cases layers coils-test c-example fuzz bench libyard
 
 # Builds the program and runs it on document 01's example and on a plate yard, whose pages are entered again and again.
 run:
@@ -13,11 +13,15 @@ test:
 	bash .ci/run
 
 # Compares the stored test cases and expected outputs with what their generators write (needs Python 3).
-cases:
+cases: layers
 	python3 tests/make_page_cases.py --check
 	python3 tests/make_search_cases.py --check
 	python3 tests/make_route_cases.py --check
 	python3 tests/make_coils_examples.py --check
+
+# The search never looks at page bytes (01): only the crate page may index an image or a page, or call what does.
+layers:
+	! grep -nE '\b(page|image)\[|(byte_at|word_at|part_of|command_at)\((page|image)\b' crates/relax/src/*.rt crates/steps/src/*.rt crates/search/src/*.rt
 
 # Runs the built program from outside: missing and oversized maps, records cut short, a slow writer (needs Python 3).
 coils-test:

@@ -1,7 +1,8 @@
--- Document 01's example of the program, computed from the definitions: for map M7 and the two records the lines are
--- those that it states.
+-- Document 01's example of the program, computed from the definitions: for map M7 and the two records the whole output is
+-- that which it states.
 use mathlib.Core.Path.{_≡_, refl}
-use mathlib.Core.List.{[], _∷_}
+use mathlib.Core.List.{List, [], _∷_}
+use Prim.Native.Nat.{ℕ}
 use Rattle.net.specs.Net.{count}
 use Rattle.net.specs.Search.{least, iter, reached, start, choose, chooseOn, readFor, relax, relaxAll, visit, workTurn}
 use Rattle.net.specs.Search.{workThrough, dfVisit, stepBy, searchBy, dfSearch}
@@ -14,18 +15,23 @@ use Rattle.page.specs.Walk.{movesOf}
 use Rattle.steps.specs.Map.{mapPage}
 use Rattle.search.specs.Reply.{onMap, searched}
 use Rattle.coil.specs.Line.{ascii, digits, sourceWords, acceptedLine, refusalLine, recordLine}
+use Rattle.coil.specs.Program.{linesFrom, printed}
 use Rattle.course.specs.Cases.{m7}
 
--- "records `07 00 00 00 B8 1F 00 00`
-pub first-line : recordLine m7 (0x07 ∷ 0 ∷ 0 ∷ 0 ∷ 0xB8 ∷ 0x1F ∷ 0 ∷ 0 ∷ [])
-    ≡ ascii "coil 7 length 8120 from 0 pages 3 reached 7\n"
-unfolding ascii digits sourceWords acceptedLine recordLine count least iter reached start choose chooseOn readFor
-    relax relaxAll visit workTurn workThrough dfVisit stepBy searchBy dfSearch allZero directoryOf pageBytes
-    firstNotBelow headingCheck commandAt firstOn nextOn judgeEnd judgeStation judgeMove judge judgedAt readFrom
-    readPage readingOf movesOf mapPage onMap searched
-first-line = refl
+-- "records `07 00 00 00 B8 1F 00 00` and `08 00 00 00 B8 1F 07 00`"
+abbrev records : List ℕ
+records =
+    0x07 ∷ 0 ∷ 0 ∷ 0 ∷ 0xB8 ∷ 0x1F ∷ 0 ∷ 0 ∷
+    0x08 ∷ 0 ∷ 0 ∷ 0 ∷ 0xB8 ∷ 0x1F ∷ 0x07 ∷ 0 ∷ []
 
--- and `08 00 00 00 B8 1F 07 00`"
-pub second-line : recordLine m7 (0x08 ∷ 0 ∷ 0 ∷ 0 ∷ 0xB8 ∷ 0x1F ∷ 0x07 ∷ 0 ∷ []) ≡ ascii "coil 8 refused 6\n"
-unfolding ascii digits refusalLine recordLine directoryOf firstNotBelow headingCheck searched
-second-line = refl
+pub example : printed m7 records ≡ ascii "coil 7 length 8120 from 0 pages 3 reached 7\ncoil 8 refused 6\n"
+unfolding linesFrom ascii digits sourceWords acceptedLine refusalLine recordLine count least iter reached start choose
+    chooseOn readFor relax relaxAll visit workTurn workThrough dfVisit stepBy searchBy dfSearch allZero directoryOf
+    pageBytes firstNotBelow headingCheck commandAt firstOn nextOn judgeEnd judgeStation judgeMove judge judgedAt readFrom
+    readPage readingOf movesOf mapPage onMap searched
+example = refl
+
+-- One byte left over behind the first record.
+pub example-short : printed m7 (0x07 ∷ 0 ∷ 0 ∷ 0 ∷ 0xB8 ∷ 0x1F ∷ 0x07 ∷ 0 ∷ 0x08 ∷ []) ≡ ascii "coil 7 refused 6\nshort\n"
+unfolding linesFrom ascii digits refusalLine recordLine directoryOf firstNotBelow headingCheck searched
+example-short = refl

@@ -57,7 +57,7 @@ abbrev pub apart : List ℕ
 apart = 2 ∷ 0 ∷ 2 ∷ 0 ∷ 0 ∷ 1 ∷ (paged (1 ∷ 0 ∷ 0 ∷ []) ++ paged (7 ∷ []))
 
 -- What is asked of a map and a source: times and predecessors; times and list; the list of either search and its
--- one-page reads; the number reached, or the refusal, and the list; one station's time and predecessor; the route to
+-- one-page reads; 0 and the number reached, or the refusal, and the list; one station's time and predecessor; the route to
 -- a station.
 pub data Question : Type 0 where
   tables timesAndList ourList dijkstrasList replyAndList : Question
@@ -71,7 +71,7 @@ pub record Case : Type 0 where
 
 -- The search on tables of as many entries as the map has stations.
 abbrev lentFor : List ℕ → Lent
-lentFor image = let nines = replicate (stationCount image) 9 in lent nines nines nines nines
+lentFor image = let nines : List ℕ = replicate (stationCount image) 9 in lent nines nines nines nines
 
 abbrev placeNumbers : Place → List ℕ
 placeNumbers nowhere = []
@@ -79,7 +79,7 @@ placeNumbers (at-station v) = v ∷ []
 placeNumbers (on-page p offset) = p ∷ offset ∷ []
 
 abbrev replyNumbers : Reply → List ℕ
-replyNumbers (accepted count reached) = reached ∷ []
+replyNumbers (accepted count reached) = 0 ∷ reached ∷ []
 replyNumbers (refused number place) = number ∷ placeNumbers place
 replyNumbers (page-refused number p offset count) = number ∷ p ∷ offset ∷ []
 
@@ -123,6 +123,6 @@ cases =
     row single 0 timesAndList (0 ∷ 0 ∷ []) ∷
     row diamond 0 (timeAndPredecessor 3) (10 ∷ 1 ∷ []) ∷
     row m7Bad 0 replyAndList (8 ∷ 1 ∷ 0 ∷ 0 ∷ 1 ∷ []) ∷
-    row apart 0 replyAndList (1 ∷ 0 ∷ []) ∷
+    row apart 0 replyAndList (0 ∷ 1 ∷ 0 ∷ []) ∷
     row apart 1 replyAndList (8 ∷ 1 ∷ 0 ∷ 1 ∷ []) ∷
     row m7 0 (routeTo 6) (0 ∷ 4 ∷ 5 ∷ 6 ∷ []) ∷ []

@@ -1,14 +1,18 @@
 -- What the C interface makes of an outcome: a status and four numbers. The quoted words are those of include/yard.h.
+use mathlib.Core.Path.{_≡_}
 use mathlib.Core.List.{List, _∷_}
 use Prim.Native.Nat.{ℕ, _≤_}
 use lib.Dec.{ltb}
 use lib.ListN.{length, drop}
+use Rattle.net.specs.Net.{Frame, Page}
+use Rattle.net.specs.Search.{State, dfSearch}
 use Rattle.page.specs.Bytes.{pick}
 use Rattle.page.specs.Image.{Place, nowhere, at-station, on-page, Outcome}
 use Rattle.page.specs.Image.{accepted as good, refused as ill-formed}
 use Rattle.route.specs.Route.{stations, unreached, turnedDown}
 use Rattle.route.specs.Route.{Answer as RouteReply}
-use Rattle.search.specs.Reply.{Reply, accepted, refused, page-refused}
+use Rattle.search.specs.Reply.{Reply, accepted, refused, page-refused, Lent, handed}
+use Rattle.search.specs.Promises.{TimesAreLeast, PageIsFirstBad, ListAgainstDijkstra, SameOnListedPages}
 use Rattle.yard.specs.declared.Numbers.{Numbers}
 
 -- "each returns 0 if accepted, else the refusal's number"; "the first four get count, reached, page (for refusal 5: the
@@ -49,6 +53,22 @@ abbrev pub toldBy : Numbers → List ℕ → Told
 toldBy n answer =
     told (n .status)
     (pick (ltb (length answer) 4) answer (n .count ∷ n .reached ∷ n .place ∷ n .offset ∷ drop 4 answer))
+
+-- Demands 2 and 3 for a C caller: there is a reply that the status and the answer tell, and with it the tables as they are
+-- left meet the demands as they stand in the search's own contract (search/specs/Promises.antt).
+pub record Demands (search : Frame → (ℕ → Page) → ℕ → State) (image : List ℕ) (source : ℕ) (before : Lent)
+    (answer : List ℕ) (called : Told) (after : Lent) : Type 0 where
+  pub reply : Reply
+  pub tells : called ≡ toldBy (ofSearch reply) answer
+  pub times : TimesAreLeast image source (handed reply after)
+  pub refused-page : PageIsFirstBad image source (handed reply after)
+  pub images : SameOnListedPages image source search before (handed reply after)
+
+-- The same of the DF search, and our list against Dijkstra's.
+pub record DfDemands (image : List ℕ) (source : ℕ) (before : Lent) (answer : List ℕ) (called : Told) (after : Lent)
+    : Type 0 where
+  pub demands : Demands dfSearch image source before answer called after
+  pub list : ListAgainstDijkstra image source before (handed (demands .reply) after)
 
 -- For the code: numbers that a C caller's 32 bits hold, as those of every outcome are (proofs/Small.antt).
 pub record Small (n : Numbers) : Type 0 where

@@ -7,7 +7,7 @@ ghost use Rattle.net.specs.Search.{plainSearch, dfSearch};
 ghost use Rattle.page.specs.Check.{wholeCheck};
 ghost use Rattle.route.specs.Route.{routeCall};
 ghost use Rattle.search.specs.Reply.{lent, searched};
-ghost use Rattle.yard.specs.Numbers.{told, toldBy, ofCheck, ofSearch, ofRoute};
+ghost use Rattle.yard.specs.Numbers.{told, toldBy, ofCheck, ofSearch, ofRoute, Demands, DfDemands};
 use answers::of_check;
 use answers::of_route;
 use answers::of_search;
@@ -52,6 +52,11 @@ pub extern "C" fn yard_plain(
         lent (now (times .exit)) (now (preds .exit)) (now (marks .exit)) (now (list .exit)) ≡
         (searched plainSearch (now (image .entry)) source
         (lent (now (times .entry)) (now (preds .entry)) (now (marks .entry)) (now (list .entry)))) .tables ⌝ }
+    ensures demands { λ r. ⌜
+        Demands plainSearch (now (image .entry)) source
+        (lent (now (times .entry)) (now (preds .entry)) (now (marks .entry)) (now (list .entry)))
+        (now (answer .entry)) (told r (now (answer .exit)))
+        (lent (now (times .exit)) (now (preds .exit)) (now (marks .exit)) (now (list .exit))) ⌝ }
 {
     let told = search::calls::plain(image, source, times, preds, marks, list);
     tell(of_search(told), answer)
@@ -76,6 +81,11 @@ pub extern "C" fn yard_df(
         lent (now (times .exit)) (now (preds .exit)) (now (marks .exit)) (now (list .exit)) ≡
         (searched dfSearch (now (image .entry)) source
         (lent (now (times .entry)) (now (preds .entry)) (now (marks .entry)) (now (list .entry)))) .tables ⌝ }
+    ensures demands { λ r. ⌜
+        DfDemands (now (image .entry)) source
+        (lent (now (times .entry)) (now (preds .entry)) (now (marks .entry)) (now (list .entry)))
+        (now (answer .entry)) (told r (now (answer .exit)))
+        (lent (now (times .exit)) (now (preds .exit)) (now (marks .exit)) (now (list .exit))) ⌝ }
 {
     let told = search::calls::df(image, source, times, preds, marks, list);
     tell(of_search(told), answer)

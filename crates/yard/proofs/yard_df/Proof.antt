@@ -5,7 +5,7 @@ use native.Mathlib.Omega.{arith}
 use denote.Ref.{now}
 use Rattle.net.specs.Search.{dfSearch}
 use Rattle.page.specs.Bytes.{Bytes}
-use Rattle.search.specs.Reply.{lent, Handed, searched}
+use Rattle.search.specs.Reply.{meaning, lent, Handed, searched}
 use Rattle.yard.specs.Numbers.{toldBy, ofSearch, Small}
 use Rattle.yard.proofs.Small.{small-search}
 use borrow.Author.Needs.{needs}
@@ -65,9 +65,24 @@ same-length-5 c = search needs
 returns : tie.Need-returns
 returns c =
     let told = c .before .before in
-    let here = told .before .before in (
-      told .tell .ensures ∙ ap (λ n. toldBy n (now (entry here .args .answer))) (numbered here),
-      ap (λ (h : Handed). h .tables) (after-search here .df .ensures .0),
+    let here = told .before .before in
+    let answer = now (entry here .args .answer) in
+    let tells = told .tell .ensures ∙ ap (λ n. toldBy n answer) (here .of-search .ensures) in
+    let promised = after-search here .df .ensures .1 in (
+      told .tell .ensures ∙ ap (λ n. toldBy n answer) (numbered here),
+      (
+        ap (λ (h : Handed). h .tables) (after-search here .df .ensures .0),
+        record {
+          demands = record {
+            reply = meaning (after-search here .df .result);
+            tells = tells;
+            times = promised .0;
+            refused-page = promised .1 .0;
+            images = promised .1 .1 .1;
+          };
+          list = promised .1 .1 .0;
+        },
+      ),
     )
 
 pub yard-df-spec : {M : Type 1} → statement M
