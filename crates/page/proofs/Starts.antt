@@ -15,9 +15,8 @@ use Rattle.page.specs.declared.Move.{Move}
 use Rattle.page.specs.declared.Command.{Command}
 use Rattle.page.specs.declared.Command.the-variants.{End, Station, MoveTo, Fault}
 use Rattle.page.specs.Bytes.{Bytes}
-use Rattle.page.specs.Reading.{Leaving, good, commandAt, readPage}
-use Rattle.page.specs.Walk.{Item, station, move, itemsAt, stationsIn, movesAt, movesOf, noted, startsNoted}
-use Rattle.page.specs.Walk.{KeptOffPage}
+use Rattle.page.specs.Reading.{Leaving, good, movesOf, commandAt, readPage}
+use Rattle.page.specs.Walk.{Item, station, move, itemsAt, stationsIn, movesAt, noted, startsNoted, KeptOffPage}
 use Rattle.page.specs.Good.{stationsOn, names}
 use Rattle.page.proofs.Items.{none-past-end, items-end, items-fault, items-station, items-move}
 use Rattle.page.proofs.Items.{note-station, note-end}

@@ -5,12 +5,10 @@ use mathlib.Core.Logic.{_≢_}
 use mathlib.Core.List.{List, [], _∷_}
 use Prim.Native.Nat.{ℕ, zero, suc, _+_, _≤_, _<_}
 use lib.ListN.{length, getD, set}
-use lib.Dec.{eqb}
 use Rattle.page.specs.declared.Move.{Move}
 use Rattle.page.specs.declared.Command.the-variants.{End, Station, MoveTo, Fault}
 use Rattle.page.specs.declared.MoveStep.{MoveStep}
 use Rattle.page.specs.declared.MoveStep.the-variants.{Next, NoMore}
-use Rattle.page.specs.Bytes.{pick}
 use Rattle.page.specs.Reading.{Leaving, commandAt, nextOn}
 
 -- A directory threaded by page: the first station of each page, and behind each station the next one of its page.
@@ -70,11 +68,6 @@ noted (move m ∷ items) starts = noted items starts
 
 abbrev pub startsNoted : List ℕ → List ℕ → List ℕ
 startsNoted page starts = noted (itemsAt page 0) starts
-
--- The moves of a station in a list of stations.
-unfoldable pub movesOf : List Leaving → ℕ → List Move
-movesOf [] u = []
-movesOf (x ∷ xs) u = let rest = movesOf xs u in pick (eqb (x .station) u) (x .moves) rest
 
 -- The entries of the stations that are not on page p are as they were.
 abbrev pub KeptOffPage : List ℕ → ℕ → List ℕ → List ℕ → Type 0

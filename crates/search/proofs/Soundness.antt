@@ -14,7 +14,7 @@ use Rattle.page.specs.Bytes.{Bytes}
 use Rattle.page.specs.Image.{directoryOf, pageBytes, headingCheck, accepted}
 use Rattle.page.specs.Reading.{Reading, good, bad}
 use Rattle.page.specs.Check.{readingOf}
-use Rattle.page.specs.Walk.{movesOf as stationMoves}
+use Rattle.page.specs.Reading.{movesOf as stationMoves}
 use Rattle.page.specs.Good.{GoodMoves}
 use Rattle.page.proofs.Heading.{formed}
 use Rattle.page.proofs.Promise.{promise}

@@ -111,46 +111,39 @@ fn print_call(call: &[u8]) {
 // Both searches on the parts of the tables that the call lends.
 fn run_lent(
     image: &[u8],
-    call: &[u8],
+    source: u16,
     times: &mut [u32],
     preds: &mut [u16],
     marks: &mut [u8],
     list: &mut [u8],
 ) {
-    let source = word_at(call, 0);
     run_search(false, image, source, times, preds, marks, list);
     run_search(true, image, source, times, preds, marks, list);
 }
 
-// The smaller of two lengths.
-fn within(asked: u16, room: usize) -> usize
-    ensures fits { λ r. ⌜ r ≤ room ⌝ }
+// A length that a call asks for, as far as there is room.
+fn within(asked: u16) -> usize
+    ensures fits { λ r. ⌜ r ≤ 2100 ⌝ }
 {
-    if (asked as usize) < room {
+    if (asked as usize) < ENTRIES {
         return asked as usize;
     }
-    room
+    ENTRIES
 }
 
-// Reads one call and runs it.
-fn run_call(
-    image: &mut [u8],
-    times: &mut [u32],
-    preds: &mut [u16],
-    marks: &mut [u8],
-    list: &mut [u8],
-) {
-    let mut call = [0u8; 11];
-    io::read_full(STDIN_FILENO, &mut call);
-    print_call(&call);
-    change_bytes(image, call[10]);
-    let t = within(word_at(&call, 2), times.len());
-    let p = within(word_at(&call, 4), preds.len());
-    let m = within(word_at(&call, 6), marks.len());
-    let l = within(word_at(&call, 8), list.len());
+// Both searches on tables of the lengths that the call asks for.
+fn run_tables(image: &[u8], call: &[u8]) {
+    let mut times = [0u32; ENTRIES];
+    let mut preds = [0u16; ENTRIES];
+    let mut marks = [0u8; ENTRIES];
+    let mut list = [0u8; ENTRIES];
+    let t = within(word_at(call, 2));
+    let p = within(word_at(call, 4));
+    let m = within(word_at(call, 6));
+    let l = within(word_at(call, 8));
     run_lent(
         image,
-        &call,
+        word_at(call, 0),
         &mut times[..t],
         &mut preds[..p],
         &mut marks[..m],
@@ -158,17 +151,19 @@ fn run_call(
     );
 }
 
-fn run_calls(
-    image: &mut [u8],
-    calls: u16,
-    times: &mut [u32],
-    preds: &mut [u16],
-    marks: &mut [u8],
-    list: &mut [u8],
-) {
+// Reads one call and runs it.
+fn run_call(image: &mut [u8]) {
+    let mut call = [0u8; 11];
+    io::read_full(STDIN_FILENO, &mut call);
+    print_call(&call);
+    change_bytes(image, call[10]);
+    run_tables(image, &call);
+}
+
+fn run_calls(image: &mut [u8], calls: u16) {
     let mut left = calls;
     while left > 0 {
-        run_call(image, times, preds, marks, list);
+        run_call(image);
         left -= 1;
     }
 }
@@ -193,30 +188,17 @@ fn run_label(size: u8) {
 }
 
 // Reads the image of a map and runs its calls.
-fn run_image(
-    image: &mut [u8],
-    calls: u16,
-    times: &mut [u32],
-    preds: &mut [u16],
-    marks: &mut [u8],
-    list: &mut [u8],
-) -> bool {
+fn run_image(image: &mut [u8], calls: u16) -> bool {
     let got = io::read_full(STDIN_FILENO, image);
     if got < image.len() {
         return cut_off();
     }
-    run_calls(image, calls, times, preds, marks, list);
+    run_calls(image, calls);
     true
 }
 
 // Reads one map, runs its calls, and says whether to go on.
-fn run_map(
-    space: &mut [u8],
-    times: &mut [u32],
-    preds: &mut [u16],
-    marks: &mut [u8],
-    list: &mut [u8],
-) -> bool {
+fn run_map(space: &mut [u8]) -> bool {
     let mut head = [0u8; 7];
     let got = io::read_full(STDIN_FILENO, &mut head);
     if got == 0 {
@@ -228,35 +210,18 @@ fn run_map(
     }
     run_label(head[0]);
     let n = io::count(size as isize, space);
-    run_image(
-        &mut space[..n],
-        word_at(&head, 1),
-        times,
-        preds,
-        marks,
-        list,
-    )
+    run_image(&mut space[..n], word_at(&head, 1))
 }
 
 // A proved loop has to end, so it counts its turns down from a number that no run uses up.
-fn run_maps(
-    space: &mut [u8],
-    times: &mut [u32],
-    preds: &mut [u16],
-    marks: &mut [u8],
-    list: &mut [u8],
-) {
+fn run_maps(space: &mut [u8]) {
     let mut turns = u64::MAX;
-    while turns > 0 && run_map(space, times, preds, marks, list) {
+    while turns > 0 && run_map(space) {
         turns -= 1;
     }
 }
 
 fn main() {
     let mut space = [0u8; BYTES];
-    let mut times = [0u32; ENTRIES];
-    let mut preds = [0u16; ENTRIES];
-    let mut marks = [0u8; ENTRIES];
-    let mut list = [0u8; ENTRIES];
-    run_maps(&mut space, &mut times, &mut preds, &mut marks, &mut list);
+    run_maps(&mut space);
 }

@@ -18,9 +18,9 @@ use Rattle.page.specs.declared.Verdict.the-variants.{Bad}
 use Rattle.page.specs.Bytes.{Bytes}
 use Rattle.page.specs.Bytes.{pick as byte-pick}
 use Rattle.page.specs.Image.{directoryOf, pageBytes}
-use Rattle.page.specs.Reading.{Reading, good, bad, Leaving}
+use Rattle.page.specs.Reading.{Reading, good, bad, Leaving, movesOf}
 use Rattle.page.specs.Check.{readingOf, verdictOf}
-use Rattle.page.specs.Walk.{movesAt, movesOf}
+use Rattle.page.specs.Walk.{movesAt}
 use Rattle.page.specs.Good.{GoodMoves, GoodStations}
 use Rattle.page.proofs.Judging.{never}
 use Rattle.page.proofs.Promise.{promise}

@@ -3,10 +3,9 @@ use mathlib.Core.List.{List, map}
 use Prim.Native.Nat.{ℕ}
 use Rattle.net.specs.Net.{Frame, Page, good, bad}
 use Rattle.page.specs.Image.{directoryOf}
-use Rattle.page.specs.Reading.{Reading}
+use Rattle.page.specs.Reading.{Reading, movesOf}
 use Rattle.page.specs.Reading.{good as read-good, bad as read-bad}
 use Rattle.page.specs.Check.{readingOf}
-use Rattle.page.specs.Walk.{movesOf}
 use Rattle.relax.specs.Tables.{frame, netMove}
 
 abbrev pub mapFrame : List ℕ → Frame

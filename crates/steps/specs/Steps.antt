@@ -12,9 +12,9 @@ use Rattle.net.specs.Search.{pick, State, Halt, going, refused, relaxAll, visit
 use Rattle.net.specs.Search.{plainVisit, dfVisit}
 use Rattle.page.specs.declared.Move.{Move}
 use Rattle.page.specs.Image.{directoryOf, pageBytes}
-use Rattle.page.specs.Reading.{Leaving, good}
+use Rattle.page.specs.Reading.{Leaving, good, movesOf}
 use Rattle.page.specs.Check.{readingOf}
-use Rattle.page.specs.Walk.{movesAt, movesOf}
+use Rattle.page.specs.Walk.{movesAt}
 use Rattle.relax.specs.Tables.{Tables, stateOf}
 use Rattle.steps.specs.declared.Step.{Step}
 use Rattle.steps.specs.declared.Step.the-variants.{On, Stopped}

@@ -1,5 +1,5 @@
--- `search_test::run_calls` is safe and ends. From turn to turn the image and the tables keep their lengths; the
--- measure is the number of calls that are left.
+-- `search_test::run_calls` is safe and ends. From turn to turn the image keeps its length; the measure is the number of
+-- calls that are left.
 use borrow.Author.Needs.{needs}
 use mathlib.Core.Path.{_≡_}
 use lib.ListN.{length}
@@ -7,12 +7,10 @@ use Rattle.search_test.proofs.run_calls.Statement.{statement}
 use Rattle.search_test.proofs.run_calls.Tie as tie
 
 abbrev Inv-loop : tie.InvT-loop
-Inv-loop image₀ calls times₀ preds₀ marks₀ list₀ left₀ image times preds marks list left =
-    (length image ≡ length image₀) × (length times ≡ length times₀) × (length preds ≡ length preds₀)
-    × (length marks ≡ length marks₀) × (length list ≡ length list₀)
+Inv-loop image₀ calls left₀ image left = length image ≡ length image₀
 
 abbrev μ-loop : tie.MeasureT-loop
-μ-loop image₀ calls times₀ preds₀ marks₀ list₀ left₀ image times preds marks list left = left
+μ-loop image₀ calls left₀ image left = left
 
 loop-holds : tie.Need-loop-holds Inv-loop μ-loop
 loop-holds c = search needs
@@ -32,18 +30,6 @@ loop-again c = search needs
 same-length : tie.Need-same-length Inv-loop μ-loop
 same-length c = search needs
 
-same-length-2 : tie.Need-same-length-2 Inv-loop μ-loop
-same-length-2 c = search needs
-
-same-length-3 : tie.Need-same-length-3 Inv-loop μ-loop
-same-length-3 c = search needs
-
-same-length-4 : tie.Need-same-length-4 Inv-loop μ-loop
-same-length-4 c = search needs
-
-same-length-5 : tie.Need-same-length-5 Inv-loop μ-loop
-same-length-5 c = search needs
-
 returns : tie.Need-returns Inv-loop μ-loop
 returns c = search needs
 
@@ -59,8 +45,4 @@ run-calls-spec =
     loop-less
     loop-again
     same-length
-    same-length-2
-    same-length-3
-    same-length-4
-    same-length-5
     returns)

@@ -41,15 +41,15 @@ module _ (stepped : tie.After-step Inv-loop μ-loop) where
   turn = tested .before
 
 -- The step that a bad page stopped, and the one behind which the loop goes on.
+-- The step is five places before that where the table of times came back from it.
+abbrev stepped-before : tie.After-times Inv-loop μ-loop → tie.After-step Inv-loop μ-loop
+stepped-before times-back = times-back .before .before .before .before .before
+
 abbrev stopped : tie.After-enum-told2 Inv-loop μ-loop → tie.After-step Inv-loop μ-loop
-stopped c =
-    c .before .before .before .before .before .before .before .before .before .before .before .before .before .before
-    .before .before
+stopped c = stepped-before (c .before .before .before .before .before .before .before .before .before .before .before)
 
 abbrev gone-on : tie.After-known-told2 Inv-loop μ-loop → tie.After-step Inv-loop μ-loop
-gone-on c =
-    c .before .before .before .before .before .before .before .before .before .before .before .before .before .before
-    .before .before .before
+gone-on c = stepped-before (c .before .before .before .before .before .before .before .before .before .before .before .before)
 
 loop-holds : tie.Need-loop-holds Inv-loop μ-loop
 loop-holds c =

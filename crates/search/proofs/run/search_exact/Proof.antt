@@ -24,15 +24,19 @@ use Rattle.search.proofs.run.search_exact.Tie as tie
 abbrev finished : tie.After-slice-known14 → tie.After-finish
 finished c = c .before .before .before .before .before .before
 
+-- The run of steps is five places before that where the predecessors came back from it.
+abbrev ran-with : tie.After-preds2 → tie.After-run
+ran-with preds-back = preds-back .before .before .before .before .before
+
 abbrev ran-before : tie.After-finish → tie.After-run
-ran-before finished =
-    finished .before .before .before .before .before .before .before .before .before .before .before .before .before
-    .before .before
+ran-before finished = ran-with (finished .before .before .before .before .before .before .before .before .before .before)
+
+-- The tables are begun seven places before the queue comes back.
+abbrev begun-with : tie.After-tree2 → tie.After-begin
+begun-with queue-back = queue-back .before .before .before .before .before .before .before
 
 abbrev begun-before : tie.After-run → tie.After-begin
-begun-before ran =
-    ran .before .before .before .before .before .before .before .before .before .before .before .before .before
-    .before .before .before .before
+begun-before ran = begun-with (ran .before .before .before .before .before .before .before .before .before .before)
 
 directory-of-requires : tie.Need-directory-of-requires
 directory-of-requires c κs = search needs
@@ -78,9 +82,7 @@ slice-aggregate-run-5 c = search needs
 
 run-requires : tie.Need-run-requires
 run-requires c κs =
-    let after-begin =
-    c .before .before .before .before .before .before .before .before .before .before .before .before
-    .before .before .before .before in
+    let after-begin = begun-with (c .before .before .before .before .before .before .before .before .before) in
     let after-thread = after-begin .before .before .before .before .before .before .before in
     let after-directory-of = after-thread .before .before .before in
     let entry = after-directory-of .before .before .before .before .before .before in

@@ -77,9 +77,8 @@ same-length-10 c = search needs
 
 returns-2 : tie.Need-returns-2
 returns-2 c =
-    let after-refer =
-    c .before .before .before .before .before .before .before .before .before .before .before .before .before
-    .before in
+    let times-back = c .before .before .before .before .before .before .before .before .before in
+    let after-refer = times-back .before .before .before .before .before in
     let needs-page = after-refer .before .before .before .before .before .before .before .before in
     let settled = needs-page .before .before .before .before .before in
     let a = entry settled .args in
