@@ -8,8 +8,9 @@ use lib.Dec.{ltb, eqb}
 use Rattle.net.specs.Search.{pick}
 use Rattle.coil.specs.Line.{ascii, recordLine}
 
--- "reads `yard.map` (a file that can't be opened is empty; past 63,492 bytes it counts as 63,493 long)". So long a map is
--- refused by 4, or by what comes before it, whatever its bytes; a file that can't be opened is given as the empty list.
+-- "reads `yard.map` (a file that can't be opened is empty; past 63,492 bytes it counts as 63,493 long)". So long a
+-- map is refused by 4, or by what comes before it, whatever its bytes; a file that can't be opened is given as the
+-- empty list.
 abbrev pub mapOf : List ℕ → List ℕ
 mapOf file = take 63493 file
 

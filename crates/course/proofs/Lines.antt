@@ -1,5 +1,5 @@
--- Document 01's example of the program, computed from the definitions: for map M7 and the two records the whole output is
--- that which it states.
+-- Document 01's example of the program, computed from the definitions: for map M7 and the two records the whole
+-- output is that which it states.
 use mathlib.Core.Path.{_≡_, refl}
 use mathlib.Core.List.{List, [], _∷_}
 use Prim.Native.Nat.{ℕ}
@@ -26,11 +26,12 @@ records =
 pub example : printed m7 records ≡ ascii "coil 7 length 8120 from 0 pages 3 reached 7\ncoil 8 refused 6\n"
 unfolding linesFrom ascii digits sourceWords acceptedLine refusalLine recordLine count least iter reached start choose
     chooseOn readFor relax relaxAll visit workTurn workThrough dfVisit stepBy searchBy dfSearch allZero directoryOf
-    pageBytes firstNotBelow headingCheck commandAt firstOn nextOn judgeEnd judgeStation judgeMove judge judgedAt readFrom
-    readPage readingOf movesOf mapPage onMap searched
+    pageBytes firstNotBelow headingCheck commandAt firstOn nextOn judgeEnd judgeStation judgeMove judge judgedAt
+    readFrom readPage readingOf movesOf mapPage onMap searched
 example = refl
 
 -- One byte left over behind the first record.
-pub example-short : printed m7 (0x07 ∷ 0 ∷ 0 ∷ 0 ∷ 0xB8 ∷ 0x1F ∷ 0x07 ∷ 0 ∷ 0x08 ∷ []) ≡ ascii "coil 7 refused 6\nshort\n"
+pub example-short : printed m7 (0x07 ∷ 0 ∷ 0 ∷ 0 ∷ 0xB8 ∷ 0x1F ∷ 0x07 ∷ 0 ∷ 0x08 ∷ [])
+    ≡ ascii "coil 7 refused 6\nshort\n"
 unfolding linesFrom ascii digits refusalLine recordLine directoryOf firstNotBelow headingCheck searched
 example-short = refl

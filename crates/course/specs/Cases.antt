@@ -57,8 +57,8 @@ abbrev pub apart : List ℕ
 apart = 2 ∷ 0 ∷ 2 ∷ 0 ∷ 0 ∷ 1 ∷ (paged (1 ∷ 0 ∷ 0 ∷ []) ++ paged (7 ∷ []))
 
 -- What is asked of a map and a source: times and predecessors; times and list; the list of either search and its
--- one-page reads; 0 and the number reached, or the refusal, and the list; one station's time and predecessor; the route to
--- a station.
+-- one-page reads; 0 and the number reached, or the refusal, and the list; one station's time and predecessor; the
+-- route to a station.
 pub data Question : Type 0 where
   tables timesAndList ourList dijkstrasList replyAndList : Question
   timeAndPredecessor routeTo : ℕ → Question

@@ -54,8 +54,8 @@ toldBy n answer =
     told (n .status)
     (pick (ltb (length answer) 4) answer (n .count ∷ n .reached ∷ n .place ∷ n .offset ∷ drop 4 answer))
 
--- Demands 2 and 3 for a C caller: there is a reply that the status and the answer tell, and with it the tables as they are
--- left meet the demands as they stand in the search's own contract (search/specs/Promises.antt).
+-- Demands 2 and 3 for a C caller: there is a reply that the status and the answer tell, and with it the tables as
+-- they are left meet the demands as they stand in the search's own contract (search/specs/Promises.antt).
 pub record Demands (search : Frame → (ℕ → Page) → ℕ → State) (image : List ℕ) (source : ℕ) (before : Lent)
     (answer : List ℕ) (called : Told) (after : Lent) : Type 0 where
   pub reply : Reply

@@ -8,6 +8,8 @@ use Prim.Native.Nat.{ℕ, _+_, _-_, _≤_, _<_}
 use denote.Ref.{now}
 use lib.ListN.{length, getD}
 use borrow.Author.Needs.{needs}
+use Rattle.page.specs.declared.Command.{Command}
+use Rattle.page.specs.Reading.{judgedAt}
 use Rattle.page.specs.Walk.{itemsAt, noted}
 use Rattle.page.proofs.Judging.{never, judged-end, judged-station, judged-move}
 use Rattle.page.proofs.Left.{Left, left-start, left-move, left-threaded, left-end, left-fault}
@@ -65,6 +67,9 @@ module _ (j : Judged) where
   abbrev least : ℕ
   least = j .before .loop .least
 
+  found-is : (x : Command) → j .judged-at .result ≡ x → judgedAt page at (length directory) due after least ≡ x
+  found-is x e = sym (j .judged-at .ensures) ∙ e
+
   abbrev left : Left directory p page at due after least
   left = j .before .loop .inv .0
 
@@ -82,7 +87,7 @@ move-read : (c : tie.After-m Inv-loop μ-loop Inv-page μ-page)
 move-read c =
     let j = c .before .before in
     let m = c .m .given .0 .0 in
-    let found = sym (j .judged-at .ensures) ∙ c .m .given .1 in (
+    let found = found-is j _ (c .m .given .1) in (
       move-room (directory j) (p j) (page j) (at j) (due j) (after j) (least j) (left j) m found,
       left-move (directory j) (p j) (page j) (at j) (due j) (after j) (least j) (left j) m found,
       note-move (page j) (at j) (starts j) m
@@ -99,7 +104,7 @@ station-read c =
     let j = c .before .before in
     let v = c .v .given .0 .0 in
     let a = entry j .args in
-    let found = sym (j .judged-at .ensures) ∙ c .v .given .1 in
+    let found = found-is j _ (c .v .given .1) in
     let step = left-threaded (directory j) (p j) (page j) (at j) (due j) (after j) (least j) (left j) in (
       station-known (directory j) (p j) (page j) (at j) (due j) (after j) (least j) (left j) v found,
       station-room (directory j) (p j) (page j) (at j) (due j) (after j) (least j) (left j) v found,
@@ -168,7 +173,7 @@ same-length c = noting (c .before .before) .same
 returns : tie.Need-returns Inv-loop μ-loop Inv-page μ-page
 returns c =
     let j = c .before .before in
-    let found = sym (j .judged-at .ensures) ∙ c .enum-told .given .1 in
+    let found = found-is j _ (c .enum-told .given .1) in
     let stands = judged-end (page j) (at j) (length (directory j)) (due j) (after j) (least j) found .0 in (
       left-end (directory j) (p j) (page j) (at j) (due j) (after j) (least j) (left j) found,
       (
@@ -209,7 +214,7 @@ page-again c =
     let arm = c .before .before .before .before .before .before in
     let j = arm .before .before in
     let v = arm .v .given .0 .0 in
-    let found = sym (j .judged-at .ensures) ∙ arm .v .given .1 in
+    let found = found-is j _ (arm .v .given .1) in
     let read = station-read arm in
     let stands = judged-station (page j) (at j) (length (directory j)) (due j) (after j) (least j) v found .0 in (
       read .2,
@@ -224,7 +229,7 @@ returns-2 : tie.Need-returns-2 Inv-loop μ-loop Inv-page μ-page
 returns-2 c =
     let j = c .before .before .before in
     let k = c .before .k .given in
-    let found = sym (j .judged-at .ensures) ∙ k .1 in (
+    let found = found-is j _ (k .1) in (
       left-fault (directory j) (p j) (page j) (at j) (due j) (after j) (least j) (left j) (k .0 .0) found,
       ((λ good. never (cc)), noting j .others),
     )

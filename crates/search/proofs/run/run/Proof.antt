@@ -49,7 +49,8 @@ abbrev stopped : tie.After-enum-told2 Inv-loop μ-loop → tie.After-step Inv-lo
 stopped c = stepped-before (c .before .before .before .before .before .before .before .before .before .before .before)
 
 abbrev gone-on : tie.After-known-told2 Inv-loop μ-loop → tie.After-step Inv-loop μ-loop
-gone-on c = stepped-before (c .before .before .before .before .before .before .before .before .before .before .before .before)
+gone-on c = stepped-before
+    (c .before .before .before .before .before .before .before .before .before .before .before .before)
 
 loop-holds : tie.Need-loop-holds Inv-loop μ-loop
 loop-holds c =

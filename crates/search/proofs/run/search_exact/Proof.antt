@@ -29,7 +29,8 @@ abbrev ran-with : tie.After-preds2 → tie.After-run
 ran-with preds-back = preds-back .before .before .before .before .before
 
 abbrev ran-before : tie.After-finish → tie.After-run
-ran-before finished = ran-with (finished .before .before .before .before .before .before .before .before .before .before)
+ran-before finished =
+    ran-with (finished .before .before .before .before .before .before .before .before .before .before)
 
 -- The tables are begun seven places before the queue comes back.
 abbrev begun-with : tie.After-tree2 → tie.After-begin
