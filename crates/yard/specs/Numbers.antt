@@ -15,8 +15,9 @@ use Rattle.search.specs.Reply.{Reply, accepted, refused, page-refused, Lent, ha
 use Rattle.search.specs.Promises.{TimesAreLeast, PageIsFirstBad, ListAgainstDijkstra, SameOnListedPages}
 use Rattle.yard.specs.declared.Numbers.{Numbers}
 
--- "each returns 0 if accepted, else the refusal's number"; "the first four get count, reached, page (for refusal 5: the
--- station), offset; numbers that do not apply are 0".
+-- "Each call returns 0 if accepted, else the refusal's number"; of the answer the first four entries get count,
+-- reached, the page "of a page refusal" or "for refusal 5 the station", and offset, "and numbers that do not apply
+-- are 0".
 abbrev pub numbers : ℕ → ℕ → ℕ → ℕ → ℕ → Numbers
 numbers s c r p o = record { status = s; count = c; reached = r; place = p; offset = o }
 
@@ -34,14 +35,14 @@ ofSearch (accepted count reached) = numbers 0 count reached 0 0
 ofSearch (refused number place) = refusedAt number place
 ofSearch (page-refused number p offset count) = numbers number count 0 p offset
 
--- "count gets the number of stations on the route; "no route" is 0 with count 0"
+-- The count is that of the "stations on the route"; "A station without a way returns 0 with answer[0] = 0".
 abbrev pub ofRoute : RouteReply → Numbers
 ofRoute (stations count) = numbers 0 count 0 0 0
 ofRoute unreached = numbers 0 0 0 0 0
 ofRoute (turnedDown number) = numbers number 0 0 0 0
 
--- What a call returns and leaves in the answer: "Where answer has four entries or more, the first four get" the
--- numbers.
+-- What a call returns and leaves in the answer. "Where answer has four entries or more, the first four get" the
+-- numbers; "A shorter answer is left as it is, and so are later entries."
 pub record Told : Type 0 where
   pub status : ℕ
   pub answer : List ℕ
@@ -54,8 +55,9 @@ toldBy n answer =
     told (n .status)
     (pick (ltb (length answer) 4) answer (n .count ∷ n .reached ∷ n .place ∷ n .offset ∷ drop 4 answer))
 
--- Demands 2 and 3 for a C caller: there is a reply that the status and the answer tell, and with it the tables as
--- they are left meet the demands as they stand in the search's own contract (search/specs/Promises.antt).
+-- Demands 2 and 3 for a C caller: there is a reply that the status and the answer tell, and with it the tables as they
+-- are left meet the demands as they stand in the search's own contract (search/specs/Promises.antt). No other reply
+-- would do: `images`, of the image itself, leaves one only (proofs/Fixed.antt).
 pub record Demands (search : Frame → (ℕ → Page) → ℕ → State) (image : List ℕ) (source : ℕ) (before : Lent)
     (answer : List ℕ) (called : Told) (after : Lent) : Type 0 where
   pub reply : Reply
