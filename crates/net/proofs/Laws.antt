@@ -1,12 +1,12 @@
 -- The laws of both searches, for every net whose moves weigh at least 1 and lead to stations, and any source in it.
 -- Each is stated of the searches by the letter of document 01; the proofs are in the other files, for the one
 -- comparison, and are carried over here by the first laws.
-use mathlib.Core.Path.{_≡_, _∙_}
+use mathlib.Core.Path.{_≡_, refl, sym, _∙_, ap}
 use mathlib.Core.List.{List, [], _∷_, _++_, Sublistᴰ}
 use Prim.Native.Nat.{ℕ, _+_, _*_, _≤_, _<_}
 use native.Mathlib.Nat.{mul-le-mul}
 use native.Mathlib.Omega.{arith}
-use lib.ListN.{length}
+use lib.ListN.{length, getD}
 use lib.Dec.{ltb, eqb}
 use Rattle.net.specs.declared.Choice.the-variants.{Station, Nobody}
 use Rattle.net.specs.Net.{Move, Page, good, Frame, Goes, timesIn, entryStations, onePageReads, count}
@@ -21,7 +21,8 @@ use Rattle.net.proofs.Basics.Count.{count-le}
 use Rattle.net.proofs.Basics.Lists.{part-reads}
 use Rattle.net.proofs.Relaxing.Relax.{Tables}
 use Rattle.net.proofs.Relaxing.Labels.{sum-below-none}
-use Rattle.net.proofs.Steps.Visits.{plain-settling, df-settling, visited-u}
+use Rattle.net.proofs.Steps.Choose.{Next}
+use Rattle.net.proofs.Steps.Visits.{plain-settling, df-settling, ready-u, visited-u}
 use Rattle.net.proofs.Steps.PageLoop.{Ready, stationsOn, loop-short, worked-through}
 use Rattle.net.proofs.Searches.Walks.{LeastCost}
 use Rattle.net.proofs.Searches.Start.{start-unsettled, start-stale}
@@ -29,7 +30,7 @@ use Rattle.net.proofs.Searches.Run.{Reached, chosen-next, run-ends}
 use Rattle.net.proofs.Searches.Answer.{ended-least-times, least-times-fix}
 use Rattle.net.proofs.Searches.Together.{plain-reached, df-reached, Together, together, together-choose}
 use Rattle.net.proofs.Searches.Together.{chosen-least, chosen-rising}
-use Rattle.net.proofs.Searches.OneComparison.{plain-visit-one, df-visit-one, run-one}
+use Rattle.net.proofs.Searches.OneComparison.{visit-one, turns-one, loop-one, plain-visit-one, df-visit-one, run-one}
 use Rattle.net.proofs.PageLists.Often.{often-entered}
 use Rattle.net.proofs.Local.{search-local, plain-visit-local, df-visit-local}
 
@@ -110,25 +111,42 @@ module _ (F : Frame) (page : ℕ → Page) (source : ℕ) (ok : Sound F page sou
       (run-ends ok isFresh (dfVisit F ltb page) (df-settling ok) (start F source) (df-reached ok 0))
 
   -- The page loop ends: it leaves no station of its page that has a time and is stale, and it takes no more turns
-  -- than the page has stations. Stated where the DF step calls it: for the station chosen after n steps, on a good
-  -- page.
+  -- than the page has stations. Stated of the loop that `dfSearch` runs, where it runs it: for the station chosen after
+  -- n steps, on a good page.
   module _ (n u : ℕ) (moves : ℕ → List Move) (chosen : choose F (dfAt n) ≡ Station u)
       (is : page (F .pageOf u) ≡ good moves) where
+    abbrev referred : State
+    referred = withPage (F .pageOf u) (settle u (dfAt n))
+
     abbrev pub inHand : State
-    inHand = visit F ltb moves u (withPage (F .pageOf u) (settle u (dfAt n)))
+    inHand = visit F (noneOrLess F) moves u referred
+
+    going-on : (dfAt n) .halt ≡ going
+    going-on = chosen-next ok isFresh (dfAt n) (df-holds n) u chosen .0
+
+    next : Next F (dfAt n) u
+    next = chosen-next ok isFresh (dfAt n) (df-holds n) u chosen .1
+
+    in-hand-one : inHand ≡ visit F ltb moves u referred
+    in-hand-one = visit-one ok (F .pageOf u) moves is u referred (ready-u ok u (dfAt n) (df-holds n .inv going-on) next)
+        refl (next .timed)
 
     in-hand-ready : Ready ok inHand
-    in-hand-ready =
-        let k = chosen-next ok isFresh (dfAt n) (df-holds n) u chosen in
-        visited-u ok u (dfAt n) (df-holds n .inv (k .0)) (k .1) moves is .ready
+    in-hand-ready = rw in-hand-one (visited-u ok u (dfAt n) (df-holds n .inv going-on) next moves is .ready)
 
-    pub page-loop-ends : chooseOn F (F .pageOf u) (workThrough F ltb (F .pageOf u) moves inHand) ≡ Nobody
-    page-loop-ends = worked-through ok (F .pageOf u) moves is inHand in-hand-ready
+    pub page-loop-ends : chooseOn F (F .pageOf u) (workThrough F (noneOrLess F) (F .pageOf u) moves inHand) ≡ Nobody
+    page-loop-ends = rw (loop-one ok (F .pageOf u) moves is inHand in-hand-ready)
+        (worked-through ok (F .pageOf u) moves is inHand in-hand-ready)
 
-    pub page-loop-turns : workThrough F ltb (F .pageOf u) moves inHand
-        ≡ iter (workTurn F ltb (F .pageOf u) moves) (count (λ v. eqb (F .pageOf v) (F .pageOf u)) (F .size)) inHand
+    pub page-loop-turns : workThrough F (noneOrLess F) (F .pageOf u) moves inHand
+        ≡ iter (workTurn F (noneOrLess F) (F .pageOf u) moves) (count (λ v. eqb (F .pageOf v) (F .pageOf u)) (F .size))
+        inHand
     unfolding stationsOn
-    page-loop-turns = loop-short ok (F .pageOf u) moves is inHand in-hand-ready
+    page-loop-turns =
+        let turns = count (λ v. eqb (F .pageOf v) (F .pageOf u)) (F .size) in
+        loop-one ok (F .pageOf u) moves is inHand in-hand-ready
+        ∙ loop-short ok (F .pageOf u) moves is inHand in-hand-ready
+        ∙ sym (turns-one ok (F .pageOf u) moves is turns inHand in-hand-ready)
 
   -- Demand 2.
   pub plain-least-times : plain .halt ≡ going → LeastTimes F page source (plain .times) (plain .preds) (reached F plain)
@@ -147,6 +165,10 @@ module _ (F : Frame) (page : ℕ → Page) (source : ℕ) (ok : Sound F page sou
   pub same-tables : df .halt ≡ going → (plain .times ≡ df .times) × (plain .preds ≡ df .preds)
   same-tables g = least-times-fix ok (plain .times) (plain .preds) (reached F plain) (plain-least-times (same-halt ∙ g))
       (df .times) (df .preds) (reached F df) (df-least-times g)
+
+  pub same-reached : df .halt ≡ going → reached F plain ≡ reached F df
+  unfolding reached
+  same-reached g = ap (λ times. count (λ v. ltb (getD times v (F .none)) (F .none)) (F .size)) (same-tables g .0)
 
   -- Which page is refused; it stands last in the list.
   pub plain-refused : (number p offset : ℕ) → plain .halt ≡ refused number p offset

@@ -2,7 +2,7 @@
 use mathlib.Core.Path.{_≡_}
 use mathlib.Core.Logic.{_≢_}
 use mathlib.Core.List.{List, Sublistᴰ, List·Memᴰ}
-use mathlib.Core.Bool.{false}
+use mathlib.Core.Bool.{true, false}
 use Prim.Native.Nat.{ℕ, suc, _+_, _≤_, _<_}
 use lib.ListN.{length, getD}
 use lib.Dec.{ltb}
@@ -24,6 +24,8 @@ module _ (F : Frame) (page : ℕ → Page) (source : ℕ) where
     pub least : (v c : ℕ) → Walk F page source v c → getD times v (F .none) ≤ c
     -- a station has no time exactly when no walk leads there
     pub timed : (v c : ℕ) → Walk F page source v c → getD times v (F .none) < F .none
+    -- the page of every station with a walk is good: a walk leaves only such stations, so that no walk is left out
+    pub pages-good : (v c : ℕ) → Walk F page source v c → isGood (page (F .pageOf v)) ≡ true
     pub untimed : (v : ℕ) → F .none ≤ getD times v (F .none)
         → (getD times v (F .none) ≡ F .none) × (getD preds v noPred ≡ noPred)
     -- the predecessors spell out a walk of that time, and each is the lowest station whose time plus move gives the

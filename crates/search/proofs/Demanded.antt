@@ -16,7 +16,7 @@ use Rattle.net.specs.Search.{refused as halted}
 use Rattle.net.specs.Demands.{LeastTimes, RefusedPage, AgreeOn}
 use Rattle.net.proofs.Sound.{Sound}
 use Rattle.net.proofs.Laws.{plain-sizes, df-sizes, plain-least-times, df-least-times, plain-refused, df-refused}
-use Rattle.net.proofs.Laws.{df-list, plain-local, df-local}
+use Rattle.net.proofs.Laws.{same-halt, same-tables, same-reached, df-list, plain-local, df-local}
 use Rattle.page.specs.Bytes.{Bytes}
 use Rattle.page.specs.Image.{Outcome, Place, nowhere, stationCount, headingCheck, AgreeOnHeading, AgreeOnDirectory}
 use Rattle.page.specs.Image.{AgreeOnPage}
@@ -101,32 +101,50 @@ module _ (image : List ℕ) (source : ℕ) where
     sizes-of true ok = let z = df-sizes F page source ok in (z .times, z .preds)
     sizes-of false ok = let z = plain-sizes F page source ok in (z .times, z .preds)
 
-    -- demand 2
-    ended-least : (t : Lent) (h : Halt) (s : State) (n count r : ℕ) → s .halt ≡ h → length (s .times) ≡ n
-        → length (s .preds) ≡ n
-        → (ended h F s t) .reply ≡ accepted count r
-        → (s .halt ≡ going → LeastTimes F page source (s .times) (s .preds) (reached F s))
-        → LeastTimes F page source (take n ((ended h F s t) .tables .times)) (take n ((ended h F s t) .tables .preds)) r
-    ended-least t going s n count r e a b q l =
-        let same : reached F s ≡ r = cc in
-        rw (
-          take-at (s .times) (drop (length (s .times)) (t .times)) n a,
-          take-at (s .preds) (drop (length (s .preds)) (t .preds)) n b,
-        )
-        (subst (LeastTimes F page source (s .times) (s .preds)) same (l e))
-    ended-least t (halted number p offset) s n count r e a b q l = never (cc)
+    -- a search was not refused if its reply is an acceptance
+    ended-going : (t : Lent) (h : Halt) (s : State) (count r : ℕ) → (ended h F s t) .reply ≡ accepted count r
+        → h ≡ going
+    ended-going t going s count r e = refl
+    ended-going t (halted n b o) s count r e = never (cc)
 
+    -- what a search that was not refused hands back is its state's
+    record AcceptedAs (s : State) (h : Handed) : Type 0 where
+      reply : h .reply ≡ accepted (length (s .pages)) (reached F s)
+      times : take (stationCount image) (h .tables .times) ≡ s .times
+      preds : take (stationCount image) (h .tables .preds) ≡ s .preds
+      list : listOf h ≡ s .pages
+
+    ended-as : (t : Lent) (h : Halt) (s : State) → h ≡ going → length (s .times) ≡ stationCount image
+        → length (s .preds) ≡ stationCount image → AcceptedAs s (ended h F s t)
+    ended-as t (halted number p offset) s g a b = never (cc)
+    ended-as t going s g a b = record {
+      reply = refl;
+      times = take-at (s .times) (drop (length (s .times)) (t .times)) (stationCount image) a;
+      preds = take-at (s .preds) (drop (length (s .preds)) (t .preds)) (stationCount image) b;
+      list = listed going F s t;
+    }
+
+    accepted-as : (df : Bool) (t other : Lent) → Ready t → (searchOf df F page source) .halt ≡ going
+        → AcceptedAs (searchOf df F page source) (onMap (searchOf df) image source other)
+    unfolding onMap
+    accepted-as df t other k g =
+        let s = searchOf df F page source in
+        let z = sizes-of df (sound-of t k) in
+        let size = formed image (k .heading) .directory in
+        ended-as other (s .halt) s g (z .0 ∙ size) (z .1 ∙ size)
+
+    -- demand 2
     pub times-are-least : (df : Bool) (t : Lent) → TimesAreLeast image source (searched (searchOf df) image source t)
     unfolding Told onMap
     times-are-least df t count r e = ⊎-elim
         (λ k. never (let z = sym (ap (λ (h : Handed). h .reply) (k .3)) ∙ e in cc))
         (λ k.
-        let ok = sound-of t (k .0) in
         let s = searchOf df F page source in
-        let z = sizes-of df ok in
-        let size = formed image (k .0 .heading) .directory in
-        rw (k .1) (ended-least t (s .halt) s (stationCount image) count r refl (z .0 ∙ size) (z .1 ∙ size)
-        (sym (ap (λ (h : Handed). h .reply) (k .1)) ∙ e) (least-of df ok)))
+        let replied = sym (ap (λ (h : Handed). h .reply) (k .1)) ∙ e in
+        let g = ended-going t (s .halt) s count r replied in
+        let a = accepted-as df t t (k .0) g in
+        let same : reached F s ≡ r = cc in
+        rw (k .1, a .times, a .preds, ← same) (least-of df (sound-of t (k .0)) g))
         (told (searchOf df) t)
 
     -- which page is refused
@@ -156,11 +174,6 @@ module _ (image : List ℕ) (source : ℕ) where
         (told (searchOf df) t)
 
     -- demand 3, our list against Dijkstra's
-    ended-going : (t : Lent) (h : Halt) (s : State) (count r : ℕ) → (ended h F s t) .reply ≡ accepted count r
-        → h ≡ going
-    ended-going t going s count r e = refl
-    ended-going t (halted n b o) s count r e = never (cc)
-
     ready-same : (t other : Lent) → SameLengths t other → Ready t
         → searched plainSearch image source other ≡ onMap plainSearch image source other
     unfolding searched
@@ -178,9 +191,18 @@ module _ (image : List ℕ) (source : ℕ) where
         let ok = sound-of t (k .0) in
         let d = dfSearch F page source in
         let p = plainSearch F page source in
-        let on = ended-going t (d .halt) d count r (sym (ap (λ (h : Handed). h .reply) (k .1)) ∙ e) in
-        rw (k .1, ready-same t other same (k .0), listed (d .halt) F d t, listed (p .halt) F p other)
-        (df-list F page source ok on))
+        let replied = sym (ap (λ (h : Handed). h .reply) (k .1)) ∙ e in
+        let g = ended-going t (d .halt) d count r replied in
+        let a = accepted-as true t t (k .0) g in
+        let b = accepted-as false t other (k .0) (same-halt F page source ok ∙ g) in
+        let tables = same-tables F page source ok g in
+        let number : reached F d ≡ r = cc in
+        rw (k .1, ready-same t other same (k .0)) (record {
+          accepts = (length (p .pages), b .reply ∙ ap (accepted (length (p .pages))) (same-reached F page source ok g ∙ number));
+          times = a .times ∙ sym (tables .0) ∙ sym (b .times);
+          preds = a .preds ∙ sym (tables .1) ∙ sym (b .preds);
+          lists = rw (a .list, b .list) (df-list F page source ok g);
+        }))
         (told dfSearch t)
 
 -- demand 3, two images

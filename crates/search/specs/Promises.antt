@@ -33,12 +33,20 @@ module _ (image : List ℕ) (source : ℕ) where
       → RefusedPage (mapFrame image) (mapPage image) source number p offset
       × ((before : List ℕ) × (listOf h ≡ before ++ (p ∷ [])))
 
+  -- What our search and Dijkstra's handed back, where ours accepted with so many stations reached: Dijkstra's accepts
+  -- too, with the same times and predecessors, and our list against its list is as demand 3 says.
+  pub record AgainstDijkstra (ours dijkstras : Handed) (reached : ℕ) : Type 0 where
+    pub accepts : (count : ℕ) × (dijkstras .reply ≡ accepted count reached)
+    pub times : take (stationCount image) (ours .tables .times) ≡ take (stationCount image) (dijkstras .tables .times)
+    pub preds : take (stationCount image) (ours .tables .preds) ≡ take (stationCount image) (dijkstras .tables .preds)
+    pub lists : ListOf (mapFrame image) (mapPage image) source (listOf ours) (listOf dijkstras)
+
   -- Demand 3: our list against Dijkstra's, which is that of the plain search "called on the same image and source with
   -- tables of the same lengths".
   abbrev pub ListAgainstDijkstra : Lent → Handed → Type 0
   ListAgainstDijkstra t h =
       (count reached : ℕ) → h .reply ≡ accepted count reached → (other : Lent) → SameLengths t other
-      → ListOf (mapFrame image) (mapPage image) source (listOf h) (listOf (searched plainSearch image source other))
+      → AgainstDijkstra h (searched plainSearch image source other) reached
 
   -- "every image of the same length, heading and directory that agrees with the first on all listed pages gets, for the
   -- same source and lent tables, the same answer, tables and list, whatever its other pages hold"

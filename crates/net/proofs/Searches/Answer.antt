@@ -71,6 +71,7 @@ module _ {F : Frame} {page : ℕ → Page} {source : ℕ} (ok : Sound F page sou
       least = λ v c k. ⊎-elim (λ le. le) (λ lt. absurd (omega arith))
           (walk-bound ok relaxed s i c (λ y p q. absurd (nobody-left y p q)) k);
       timed = λ v c k. all-timed k;
+      pages-good = λ v c k. i .labels .read v (all-relaxed v (all-timed k));
       untimed = λ v h. (omega (arith, i .tables .capped v), i .labels .rooted .none v h);
       spells = λ v h.
           let k = spelled (suc (timeOf F s v)) v (omega arith) h in

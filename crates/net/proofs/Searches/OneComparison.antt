@@ -61,7 +61,7 @@ module _ {F : Frame} {page : ℕ → Page} {source : ℕ} (ok : Sound F page sou
         goes : (m : Move) → List·Memᴰ m (moves u) → Goes F page u (m .target) (m .weight)
         goes m k = rw (on, is) k
 
-    visit-one : (u : ℕ) (s : State) → Ready ok s → F .pageOf u ≡ p → timeOf F s u < F .none
+    pub visit-one : (u : ℕ) (s : State) → Ready ok s → F .pageOf u ≡ p → timeOf F s u < F .none
         → visit F (noneOrLess F) moves u s ≡ visit F ltb moves u s
     unfolding visit
     visit-one u s r on h = moves-one u (markFresh u s) on (markFresh-tables F u s (r .tables)) h (r .labels .rooted)
@@ -75,12 +75,16 @@ module _ {F : Frame} {page : ℕ → Page} {source : ℕ} (ok : Sound F page sou
         by-choice Nobody n = refl
         by-choice (Station x) n = sym (visit-one x r ready (n .on) (n .timed))
 
-    loop-one : (s : State) → Ready ok s → workThrough F (noneOrLess F) p moves s ≡ workThrough F ltb p moves s
-    unfolding workThrough
-    loop-one s ready = sym (iter-agrees (Ready ok) (workTurn F ltb p moves) (workTurn F (noneOrLess F) p moves)
+    pub turns-one : (n : ℕ) (s : State) → Ready ok s
+        → iter (workTurn F (noneOrLess F) p moves) n s ≡ iter (workTurn F ltb p moves) n s
+    turns-one n s ready = sym (iter-agrees (Ready ok) (workTurn F ltb p moves) (workTurn F (noneOrLess F) p moves)
         (λ r k. turn-cases ok p moves is (Ready ok) r (k .tables) (λ e. k)
         (λ x e n. visited ok p moves is x r k (n .small) (n .timed) (n .on) .ready))
-        turn-one (F .size) s ready)
+        turn-one n s ready)
+
+    pub loop-one : (s : State) → Ready ok s → workThrough F (noneOrLess F) p moves s ≡ workThrough F ltb p moves s
+    unfolding workThrough
+    loop-one = turns-one (F .size)
 
   -- a page read for two purposes that agree where it is good
   read-one : (u : ℕ) (s : State) (work other : (ℕ → List Move) → State → State)
