@@ -2,7 +2,7 @@
 -- answer of document 01.
 use mathlib.Core.List.{List, [], _∷_, _++_}
 use Prim.Native.Nat.{ℕ}
-use lib.ListN.{length, getD, take, replicate}
+use lib.ListN.{getD, set, take, replicate}
 use Rattle.net.specs.Net.{Frame, Page, onePageReads}
 use Rattle.net.specs.Search.{State, plainSearch, dfSearch}
 use Rattle.page.specs.Image.{Place, nowhere, at-station, on-page, stationCount}
@@ -34,9 +34,9 @@ m7Second =
 abbrev pub m7 : List ℕ
 m7 = m7Heading ++ (paged m7First ++ paged m7Second)
 
--- "M7, page 1 begins 07"
+-- "M7, page 1 begins 07": one byte is another, the first of page 1
 abbrev pub m7Bad : List ℕ
-m7Bad = m7Heading ++ (paged m7First ++ paged (7 ∷ []))
+m7Bad = set m7 267 7
 
 -- "S is the 261-byte map 01 00 01 00 00 and a page 01 00 00 00 then zeros."
 abbrev pub single : List ℕ
@@ -70,7 +70,7 @@ pub record Case : Type 0 where
   pub answer : List ℕ
 
 -- The search on tables of as many entries as the map has stations.
-abbrev lentFor : List ℕ → Lent
+abbrev pub lentFor : List ℕ → Lent
 lentFor image = let nines : List ℕ = replicate (stationCount image) 9 in lent nines nines nines nines
 
 abbrev placeNumbers : Place → List ℕ
