@@ -53,13 +53,15 @@ fn on_tables(
         return Answer::Refused(6);
     }
     if fits(n, times.len(), preds.len(), marks.len(), list.len()) {
+        // Entries past the stations are kept.
+        let front = n;
         return search_exact(
             df,
             image,
             source,
-            &mut times[..n],
-            &mut preds[..n],
-            &mut marks[..n],
+            &mut times[..front],
+            &mut preds[..front],
+            &mut marks[..front],
             list,
         );
     }

@@ -121,11 +121,8 @@ fn finish(stood: Step, times: &mut [u32], preds: &mut [u16], marks: &mut [u8]) -
     match stood {
         Step::On(count) => {
             clear_marks(marks);
-            let timed = reached(times);
-            Answer::Accepted {
-                count,
-                reached: timed,
-            }
+            let reached = reached(times);
+            Answer::Accepted { count, reached }
         }
         Step::Stopped {
             number,

@@ -9,6 +9,7 @@ use lib.Seq.{length-take-le}
 use Rattle.page.specs.Bytes.{Bytes}
 use Rattle.page.proofs.Heading.{formed}
 use mathlib.Core.Bool.{true, false}
+use mathlib.Core.List.{List}
 use Rattle.search.specs.Reply.{lent, tooShort}
 use Rattle.search.specs.Running.{searchOf}
 use Rattle.search.proofs.Soundness.{image-sound}
@@ -16,6 +17,9 @@ use Rattle.search.proofs.Handing.{long-enough, not-short, is-short, on-
 use borrow.Author.Needs.{needs}
 use Rattle.search.proofs.calls.on_tables.Statement.{statement}
 use Rattle.search.proofs.calls.on_tables.Tie as tie
+
+front-length : (k : ℕ) (table : List ℕ) → k ≤ length table → k ≡ length (take k table)
+front-length k table h = sym (length-take-le k table h)
 
 -- The place behind refusals 6 and 7: each table has an entry for each station.
 module _ (fitting : tie.Then2) where
@@ -61,22 +65,25 @@ fits-requires : tie.Need-fits-requires
 fits-requires c κs = search needs
 
 slice-relend-prefix-search-exact : tie.Need-slice-relend-prefix-search-exact
-slice-relend-prefix-search-exact c = enough c .0
+slice-relend-prefix-search-exact c = omega (arith, enough c .0)
 
 slice-aggregate-search-exact : tie.Need-slice-aggregate-search-exact
-slice-aggregate-search-exact c = sym (first-times (c .before))
+slice-aggregate-search-exact c =
+    front-length _ (now (entry (c .before) .args .times)) (omega (arith, enough (c .before) .0))
 
 slice-relend-prefix-search-exact-2 : tie.Need-slice-relend-prefix-search-exact-2
-slice-relend-prefix-search-exact-2 c = enough (c .before) .1
+slice-relend-prefix-search-exact-2 c = omega (arith, enough (c .before) .1)
 
 slice-aggregate-search-exact-2 : tie.Need-slice-aggregate-search-exact-2
-slice-aggregate-search-exact-2 c = sym (first-preds (c .before .before))
+slice-aggregate-search-exact-2 c =
+    front-length _ (now (entry (c .before .before) .args .preds)) (omega (arith, enough (c .before .before) .1))
 
 slice-relend-prefix-search-exact-3 : tie.Need-slice-relend-prefix-search-exact-3
-slice-relend-prefix-search-exact-3 c = enough (c .before .before) .2
+slice-relend-prefix-search-exact-3 c = omega (arith, enough (c .before .before) .2)
 
 slice-aggregate-search-exact-3 : tie.Need-slice-aggregate-search-exact-3
-slice-aggregate-search-exact-3 c = sym (first-marks (c .before .before .before))
+slice-aggregate-search-exact-3 c =
+    front-length _ (now (entry (c .before .before .before) .args .marks)) (omega (arith, enough (c .before .before .before) .2))
 
 search-exact-requires : tie.Need-search-exact-requires
 search-exact-requires c κs =
