@@ -197,8 +197,9 @@ module _ (image : List ℕ) (source : ℕ) where
         let b = accepted-as false t other (k .0) (same-halt F page source ok ∙ g) in
         let tables = same-tables F page source ok g in
         let number : reached F d ≡ r = cc in
+        let count-of : (State → ℕ) = λ s. length (s .pages) in
         rw (k .1, ready-same t other same (k .0)) (record {
-          accepts = (length (p .pages), b .reply ∙ ap (accepted (length (p .pages))) (same-reached F page source ok g ∙ number));
+          accepts = (count-of p, b .reply ∙ ap (accepted (count-of p)) (same-reached F page source ok g ∙ number));
           times = a .times ∙ sym (tables .0) ∙ sym (b .times);
           preds = a .preds ∙ sym (tables .1) ∙ sym (b .preds);
           lists = rw (a .list, b .list) (df-list F page source ok g);

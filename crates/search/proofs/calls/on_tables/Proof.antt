@@ -83,7 +83,8 @@ slice-relend-prefix-search-exact-3 c = omega (arith, enough (c .before .before) 
 
 slice-aggregate-search-exact-3 : tie.Need-slice-aggregate-search-exact-3
 slice-aggregate-search-exact-3 c =
-    front-length _ (now (entry (c .before .before .before) .args .marks)) (omega (arith, enough (c .before .before .before) .2))
+    let fitting = c .before .before .before in
+    front-length _ (now (entry fitting .args .marks)) (omega (arith, enough fitting .2))
 
 search-exact-requires : tie.Need-search-exact-requires
 search-exact-requires c κs =
