@@ -1,5 +1,5 @@
--- Beliefs from the course, on the course map M7 of document 01: each is refuted by computing the searches, or a
--- variant that follows the belief.
+-- Beliefs from the course, on the course maps of document 01: each is refuted by computing the DF search, and where the
+-- belief is about how it goes on, a variant that follows the belief (docs/course.md tells them with their numbers).
 use mathlib.Core.Path.{_≡_, refl}
 use mathlib.Core.List.{List, [], _∷_, Sublistᴰ, Sublistᴰ·slnil, Sublistᴰ·cons, Sublistᴰ·cons-cons}
 use mathlib.Core.Bool.{Bool, false, not, _||_}
@@ -33,39 +33,61 @@ unfolding iter least relax relaxAll visit choose chooseOn workTurn workThrough r
     start dfSearch
 worked-through-is-not-final = (refl, refl)
 
--- The DF search in which a lowered station stays fresh: relaxing leaves the marks as they were.
-module _ (F : Frame) (page : ℕ → Page) where
-  abbrev visitStaying : (ℕ → List Move) → ℕ → State → State
-  visitStaying moves u s =
-      let t = visit F (noneOrLess F) moves u s in
-      withTables (t .times) (t .preds) ((markFresh u s) .marks) t
+-- "Stop when each page has been seen once": after two steps the list is 0 1, and each page of the map stands in it, but
+-- station 3 has time 10 then; at the end it has 6.
+pub seen-once-is-not-the-end :
+    ((afterDf m7 m7-page 0 2) .pages ≡ 0 ∷ 1 ∷ []) × (timeOf m7 (afterDf m7 m7-page 0 2) 3 ≡ 10)
+    × (timeOf m7 (dfSearch m7 m7-page 0) 3 ≡ 6)
+unfolding iter least relax relaxAll visit choose chooseOn workTurn workThrough readFor dfVisit stepBy searchBy
+    start dfSearch
+seen-once-is-not-the-end = (refl, refl, refl)
 
-  abbrev turnStaying : ℕ → (ℕ → List Move) → State → State
-  turnStaying p moves s = onChoice (visitStaying moves) (chooseOn F p s) s
+-- The DF search with another way to visit a station: to mark it fresh and to relax its moves.
+module _ (F : Frame) (page : ℕ → Page) (visitAs : (ℕ → List Move) → ℕ → State → State) where
+  abbrev turnAs : ℕ → (ℕ → List Move) → State → State
+  turnAs p moves s = onChoice (visitAs moves) (chooseOn F p s) s
 
-  abbrev dfVisitStaying : ℕ → State → State
-  dfVisitStaying u s = pick (isFresh s u) (settle u s)
-      (readFor F page u (λ moves t. iter (turnStaying (F .pageOf u) moves) (F .size) (visitStaying moves u t)) s)
+  abbrev dfVisitAs : ℕ → State → State
+  dfVisitAs u s = pick (isFresh s u) (settle u s)
+      (readFor F page u (λ moves t. iter (turnAs (F .pageOf u) moves) (F .size) (visitAs moves u t)) s)
+
+-- A lowered station stays fresh: relaxing leaves the marks as they were.
+abbrev visitStaying : Frame → (ℕ → List Move) → ℕ → State → State
+visitStaying F moves u s =
+    let t = visit F (noneOrLess F) moves u s in
+    withTables (t .times) (t .preds) ((markFresh u s) .marks) t
 
 -- "A lowered station may stay fresh": then station 3 keeps 10, though a walk of 6 leads there.
 pub lowered-must-not-stay-fresh :
-    (timeOf m7 (searchBy m7 (dfVisitStaying m7 m7-page) 0) 3 ≡ 10) × (timeOf m7 (dfSearch m7 m7-page 0) 3 ≡ 6)
+    (timeOf m7 (searchBy m7 (dfVisitAs m7 m7-page (visitStaying m7)) 0) 3 ≡ 10)
+    × (timeOf m7 (dfSearch m7 m7-page 0) 3 ≡ 6)
 unfolding iter least relax relaxAll visit choose chooseOn workTurn workThrough readFor dfVisit stepBy searchBy
     start dfSearch
 lowered-must-not-stay-fresh = (refl, refl)
 
--- "The first predecessor found stays": on the course map C6 station 3 is reached through 2 first, then through 1 at
--- the same time, and 1 it is.
 abbrev c6 : Frame
 c6 = record { size = 4; pageOf = λ v. 0; none = 4294967295 }
 
 abbrev c6-page : ℕ → Page
 c6-page p = good (λ u. getD ((to 1 6 ∷ to 2 5 ∷ []) ∷ (to 3 4 ∷ []) ∷ (to 3 5 ∷ []) ∷ [] ∷ []) u [])
 
-pub lowest-predecessor-counts : (timeOf c6 (dfSearch c6 c6-page 0) 3 ≡ 10) × (predOf (dfSearch c6 c6-page 0) 3 ≡ 1)
+-- The first predecessor found stays: a move is relaxed only where it gives a station its first time or lowers it.
+abbrev relaxFirst : Frame → ℕ → List Move → State → State
+relaxFirst F u [] s = s
+relaxFirst F u (m ∷ moves) s = relaxFirst F u moves
+    (pick (noneOrLess F (timeOf F s u + m .weight) (timeOf F s (m .target))) (relax F (noneOrLess F) u m s) s)
+
+abbrev visitFirst : Frame → (ℕ → List Move) → ℕ → State → State
+visitFirst F moves u s = relaxFirst F u (moves u) (markFresh u s)
+
+-- "The first predecessor found stays": on the course map C6 station 3 is reached through 2 first, then through 1 at
+-- the same time, 10. By the belief its predecessor would be 2; it is 1.
+pub lowest-predecessor-counts :
+    (predOf (searchBy c6 (dfVisitAs c6 c6-page (visitFirst c6)) 0) 3 ≡ 2)
+    × (timeOf c6 (dfSearch c6 c6-page 0) 3 ≡ 10) × (predOf (dfSearch c6 c6-page 0) 3 ≡ 1)
 unfolding iter least relax relaxAll visit choose chooseOn workTurn workThrough readFor dfVisit stepBy searchBy
     start dfSearch
-lowest-predecessor-counts = (refl, refl)
+lowest-predecessor-counts = (refl, refl, refl)
 
 -- A store of a number of frames, least recently used out: the pages held, the latest first, and its reads of a list.
 abbrev holds : ℕ → List ℕ → Bool
@@ -80,13 +102,17 @@ abbrev readsWith : ℕ → List ℕ → List ℕ → ℕ
 readsWith frames held [] = 0
 readsWith frames held (p ∷ list) = one (not (holds p held)) + readsWith frames (take frames (p ∷ without p held)) list
 
--- "A part of a list reads less in any store": with two frames 0 1 0 2 0 takes 3 reads and its part 0 1 2 0 takes 4.
+-- "A part of a list reads less in any store": with one frame 0 1 0 2 0 takes 5 reads and its part 0 1 2 0 takes 4, but
+-- with two frames the whole takes 3 and the part 4.
 pub part-may-read-more :
-    Sublistᴰ {A = ℕ} (0 ∷ 1 ∷ 2 ∷ 0 ∷ []) (0 ∷ 1 ∷ 0 ∷ 2 ∷ 0 ∷ []) × (readsWith 2 [] (0 ∷ 1 ∷ 0 ∷ 2 ∷ 0 ∷ []) ≡ 3)
-    × (readsWith 2 [] (0 ∷ 1 ∷ 2 ∷ 0 ∷ []) ≡ 4)
+    Sublistᴰ {A = ℕ} (0 ∷ 1 ∷ 2 ∷ 0 ∷ []) (0 ∷ 1 ∷ 0 ∷ 2 ∷ 0 ∷ [])
+    × (readsWith 1 [] (0 ∷ 1 ∷ 0 ∷ 2 ∷ 0 ∷ []) ≡ 5) × (readsWith 1 [] (0 ∷ 1 ∷ 2 ∷ 0 ∷ []) ≡ 4)
+    × (readsWith 2 [] (0 ∷ 1 ∷ 0 ∷ 2 ∷ 0 ∷ []) ≡ 3) × (readsWith 2 [] (0 ∷ 1 ∷ 2 ∷ 0 ∷ []) ≡ 4)
 part-may-read-more = (
   Sublistᴰ·cons-cons refl (Sublistᴰ·cons-cons refl
       (Sublistᴰ·cons (Sublistᴰ·cons-cons refl (Sublistᴰ·cons-cons refl Sublistᴰ·slnil)))),
+  refl,
+  refl,
   refl,
   refl,
 )
