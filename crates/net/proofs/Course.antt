@@ -26,6 +26,17 @@ m7-moves = (to 1 4 ∷ to 4 2 ∷ []) ∷ (to 2 3 ∷ []) ∷ (to 3 3 ∷ []) �
 abbrev m7-page : ℕ → Page
 m7-page p = good (λ u. getD m7-moves u [])
 
+-- The times of M7 from 0 after one, two and three DF steps; the steps after these fetch nothing and change no time.
+pub m7-step-by-step :
+    ((afterDf m7 m7-page 0 1) .times ≡ 0 ∷ 4 ∷ 7 ∷ 10 ∷ 2 ∷ 13 ∷ 4294967295 ∷ [])
+    × ((afterDf m7 m7-page 0 2) .times ≡ 0 ∷ 4 ∷ 3 ∷ 10 ∷ 2 ∷ 8 ∷ 9 ∷ [])
+    × ((afterDf m7 m7-page 0 3) .times ≡ 0 ∷ 4 ∷ 3 ∷ 6 ∷ 2 ∷ 8 ∷ 9 ∷ [])
+    × ((dfSearch m7 m7-page 0) .times ≡ (afterDf m7 m7-page 0 3) .times)
+    × ((dfSearch m7 m7-page 0) .pages ≡ 0 ∷ 1 ∷ 0 ∷ [])
+unfolding iter least relax relaxAll visit choose chooseOn workTurn workThrough readFor dfVisit stepBy searchBy
+    start dfSearch
+m7-step-by-step = (refl, refl, refl, refl, refl)
+
 -- "Worked through is final": station 2 has time 7 after the first step, which works page 0 through, and 3 at the end.
 pub worked-through-is-not-final :
     (timeOf m7 (afterDf m7 m7-page 0 1) 2 ≡ 7) × (timeOf m7 (dfSearch m7 m7-page 0) 2 ≡ 3)
