@@ -7,15 +7,12 @@ yard's (examples/plate: yard.map, records, expected).
 The expected lines come from coils.py, and document 01's are stated here by hand too.
 """
 import random
-import sys
-from pathlib import Path
 
 from coils import line, printed
 from make_search_cases import M7, damaged, page_begins, spelled
 from maps import u16, u32
 from searches import df
-
-ROOT = Path(__file__).resolve().parent.parent
+from stored import ROOT, keep
 
 # The plate yard: a grid of one-way lanes, its stations numbered by rows and dealt out to the pages by threes, so that
 # a search enters each page again and again; and a siding of four stations on a page of their own, which leads into the
@@ -85,15 +82,7 @@ def files():
 
 
 def main():
-    made = files()
-    if '--check' in sys.argv[1:]:
-        differing = [str(path.relative_to(ROOT)) for path, data in made
-                     if not path.exists() or path.read_bytes() != data]
-        print('differs: ' + ', '.join(differing) if differing else f'{len(made)} files as written')
-        sys.exit(1 if differing else 0)
-    for path, data in made:
-        path.parent.mkdir(parents=True, exist_ok=True)
-        path.write_bytes(data)
+    keep('2 examples', files())
 
 
 if __name__ == '__main__':

@@ -7,13 +7,12 @@ The expected text comes from reader.py. Each case below also states the whole ch
 and each good map the content that it was built from; the generator stops where reader.py says otherwise.
 """
 import random
-import sys
-from pathlib import Path
 
 from maps import image, move, page, station, u16
 from reader import PAGE, parse, read_page, whole_check
+from stored import ROOT, keep
 
-FOLDER = Path(__file__).resolve().parent.parent / 'crates' / 'page_test'
+FOLDER = ROOT / 'crates' / 'page_test'
 ANSWERS, SWEEP = 1, 2  # the kinds of case
 
 
@@ -398,14 +397,7 @@ def main():
     map_cases()
     sweep_case()
     random_cases()
-    made = {'stdin': stream(), 'stdout': text()}
-    if sys.argv[1:] == ['--check']:
-        stale = [name for name, data in made.items() if (FOLDER / name).read_bytes() != data]
-        sys.exit(f'not what the generator makes: {", ".join(stale)}' if stale else 0)
-    for name, data in made.items():
-        (FOLDER / name).write_bytes(data)
-        print(f'{name}: {len(data)} bytes')
-    print(f'{len(CASES)} cases')
+    keep(f'{len(CASES):,} maps', [(FOLDER / 'stdin', stream()), (FOLDER / 'stdout', text())])
 
 
 if __name__ == '__main__':

@@ -8,10 +8,10 @@ takes a chain for endless where a station comes up a second time. Each case by h
 generator stops where `route` says otherwise.
 """
 import random
-import sys
-from pathlib import Path
 
-FOLDER = Path(__file__).resolve().parent.parent / 'crates' / 'route_test'
+from stored import ROOT, keep
+
+FOLDER = ROOT / 'crates' / 'route_test'
 SOURCE, NONE, CANARY = 65534, 65535, 43690
 MOST = 2048
 
@@ -144,17 +144,10 @@ def line(table, station, room):
 
 def main():
     made = cases()
-    files = {
-        FOLDER / 'stdin': b''.join(encoded(*case) for case in made),
-        FOLDER / 'stdout': ''.join(line(*case) for case in made).encode(),
-    }
-    if sys.argv[1:] == ['--check']:
-        wrong = [path.name for path, data in files.items() if not path.exists() or path.read_bytes() != data]
-        if wrong:
-            sys.exit('differs: ' + ', '.join(wrong))
-        return
-    for path, data in files.items():
-        path.write_bytes(data)
+    stream = b''.join(encoded(*case) for case in made)
+    text = ''.join(line(*case) for case in made).encode()
+    keep(f'{len(made):,} routes', [(FOLDER / 'stdin', stream), (FOLDER / 'stdout', text)])
 
 
-main()
+if __name__ == '__main__':
+    main()

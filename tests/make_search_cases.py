@@ -8,15 +8,14 @@ document 01 states an answer, a list, times or predecessors, the case below stat
 where one of these says otherwise.
 """
 import random
-import sys
-from pathlib import Path
 
 from demands import check
 from maps import image, move, page, station, u16, u32
 from reader import PAGE
 from searches import df, plain
+from stored import ROOT, keep
 
-FOLDER = Path(__file__).resolve().parent.parent / 'crates' / 'search_test'
+FOLDER = ROOT / 'crates' / 'search_test'
 
 # What stands in each table before a call: times, predecessors, marks, page list.
 BEFORE = (2863311530, 43690, 170, 187)
@@ -118,15 +117,13 @@ class Cases:
     """The maps with their calls: the bytes that the program reads, and the lines that it must print."""
 
     def __init__(self):
-        self.maps, self.calls, self.searches = 0, 0, {}
-        self.stream, self.lines = [], []
+        self.searches, self.stream, self.lines = 0, [], []
         self.rng = random.Random(240)  # the bytes of unlisted pages in second images
 
     def add(self, label, data, calls):
         text = label.encode('ascii')
         self.stream += [bytes([len(text)]), u16(len(calls)), u32(len(data)), text, data]
         self.lines.append(label)
-        self.maps += 1
         for one in calls:
             data = damaged(data, *one.changes)
             self.add_call(label, data, one)
@@ -140,10 +137,7 @@ class Cases:
         self.stream += [u16(one.source), *map(u16, lengths), bytes([len(one.changes)])]
         self.stream += [u32(at) + bytes([value]) for at, value in one.changes]
         self.lines += call_lines(one.source, lengths, one.changes, outcomes)
-        self.calls += 1
-        for outcome in outcomes:
-            kind = outcome.answer[0] if outcome.answer[0] == 'accepted' else f'refused {outcome.answer[1]}'
-            self.searches[kind] = self.searches.get(kind, 0) + 1
+        self.searches += len(outcomes)
 
 
 class Call:
@@ -485,16 +479,7 @@ def main():
         part(cases)
     stream = b''.join(cases.stream)
     text = ''.join(line + '\n' for line in cases.lines).encode('ascii')
-    kinds = sorted(cases.searches, key=lambda kind: (len(kind), kind))
-    print(f'{cases.maps} maps, {cases.calls} calls; stdin {len(stream)} bytes, stdout {len(text)} bytes')
-    print('answers: ' + ', '.join(f'{kind} {cases.searches[kind]} times' for kind in kinds))
-    files = [(FOLDER / 'stdin', stream), (FOLDER / 'stdout', text)]
-    if '--check' in sys.argv[1:]:
-        differing = [path.name for path, made in files if path.read_bytes() != made]
-        print('differs: ' + ', '.join(differing) if differing else 'as written')
-        sys.exit(1 if differing else 0)
-    for path, made in files:
-        path.write_bytes(made)
+    keep(f'{cases.searches:,} searches', [(FOLDER / 'stdin', stream), (FOLDER / 'stdout', text)])
 
 
 if __name__ == '__main__':
