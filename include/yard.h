@@ -1,15 +1,33 @@
 /*
- * The yard's routing engine for C programs. Link libyard.a (rt staticlib yard).
+ * The yard's routing engine for C99 and C++11 programs. Link libyard.a (rt staticlib yard).
  *
- * A slice is passed as a pointer and a length in entries; a length of 0 needs a pointer that is not null. The slices of
- * one call must not overlap. No call allocates, and none keeps a pointer. A call's stack use stays below 256 KiB.
+ * A map image is the whole map as bytes; whole numbers are little-endian, u16 has 16 bits:
+ *     u16 N            number of stations, 1 to YARD_MAX_STATIONS; they are numbered from 0
+ *     u16 P            number of pages, 1 to YARD_MAX_PAGES
+ *     N bytes          the directory: the page of each station, below P
+ *     P pages of YARD_PAGE_BYTES, each a row of commands:
+ *         01, u16 s            begins station s
+ *         02, u16 v, u16 t     a move of that station: to station v, in t tenths of a second, 1 to 65,535
+ *         00                   ends the page; zeros follow
+ * A page names just its own stations, rising; the targets of a station rise and differ from it. README.md says it at
+ * more length, crates/page/specs/Image.antt and Reading.antt say it exactly.
  *
- * Each call returns 0 if accepted, else the refusal's number (1 to 17). Where answer has four entries or more, the first
- * four get
+ * A slice is passed as a pointer and a length in entries; a length of 0 needs a pointer that is not null. The slices
+ * of one call must not overlap. No call allocates, and none keeps a pointer.
+ *
+ * Threads: the library has no data of its own, only code, so that calls may run at the same time in any threads, also
+ * on the same image, as long as no thread uses memory that another thread's call is writing.
+ *
+ * Stack: a call's stack use stays below 256 KiB. The most that was seen, in bytes, arguments included (`make stack` on
+ * x86-64: full maps and damaged ones):
+ *     yard_check 21,184    yard_plain 54,432    yard_df 54,456    yard_route 72
+ *
+ * Each call returns 0 if accepted, else the refusal's number (1 to 17). Where answer has four entries or more, the
+ * first four get
  *     answer[0]  count:   entries of the page list, or stations on the route
- *     answer[1]  reached: stations that have a time
+ *     answer[1]  reached: stations that have a time, the source among them
  *     answer[2]  page of a page refusal (8 to 14); for refusal 5 the station
- *     answer[3]  offset of a page refusal in its page
+ *     answer[3]  offset of a page refusal in its page, in bytes: that of the command at fault
  * and numbers that do not apply are 0. A shorter answer is left as it is, and so are later entries.
  */
 #ifndef YARD_H
@@ -22,44 +40,97 @@
 extern "C" {
 #endif
 
+/* The version of this interface: MAJOR rises when programs have to change, MINOR when something is added. */
+#define YARD_VERSION_MAJOR 1
+#define YARD_VERSION_MINOR 0
+
+/* The limits of a map. Read a file into YARD_MAX_IMAGE_BYTES + 1 bytes: one that is too long is then refused by 4. */
+#define YARD_MAX_STATIONS 2048
+#define YARD_MAX_PAGES 240
+#define YARD_PAGE_BYTES 256
+#define YARD_MAX_IMAGE_BYTES 63492
+
 /* The entries of a station that was not reached, and the predecessor of the source. */
 #define YARD_NO_TIME UINT32_C(4294967295)
 #define YARD_NO_PREDECESSOR UINT16_C(65535)
 #define YARD_SOURCE UINT16_C(65534)
 
-/* The refusals, by their numbers. */
+/* What a call returns: the refusals by their numbers; yard_refusal_meaning has their conditions. */
 enum yard_refusal {
     YARD_ACCEPTED = 0,
-    YARD_IMAGE_TOO_SHORT = 1,     /* image under 4 bytes */
-    YARD_STATION_COUNT = 2,       /* N is 0 or over 2,048 */
-    YARD_PAGE_COUNT = 3,          /* P is 0 or over 240 */
-    YARD_IMAGE_LENGTH = 4,        /* wrong total length */
-    YARD_DIRECTORY = 5,           /* directory byte not below P; answer[2] is the lowest such station */
-    YARD_SOURCE_RANGE = 6,        /* source not below N */
-    YARD_TABLE_TOO_SHORT = 7,     /* a table under N entries */
-    YARD_UNKNOWN_CODE = 8,        /* 8 to 14: answer[2] is the page, answer[3] the offset of the command at fault */
-    YARD_PAGE_END = 9,            /* a command passes byte 255, or no 00 */
-    YARD_NOT_NEXT_STATION = 10,   /* not the next station, or one missing at 00 */
-    YARD_MOVE_BEFORE_STATION = 11,
-    YARD_TARGET = 12,             /* target not below N, own station, or not rising */
-    YARD_TIME_ZERO = 13,
-    YARD_BYTE_AFTER_END = 14,     /* byte not 00 after the end */
-    YARD_ROUTE_STATION = 15,      /* no predecessors or over 2,048, or station not below their number */
-    YARD_ROUTE_CHAIN = 16,        /* the predecessors lead to no source */
-    YARD_ROUTE_ROOM = 17          /* output shorter than the route */
+    /* of the whole map: 5 gives the lowest such station in answer[2] */
+    YARD_REFUSED_IMAGE_TOO_SHORT = 1,
+    YARD_REFUSED_STATION_COUNT = 2,
+    YARD_REFUSED_PAGE_COUNT = 3,
+    YARD_REFUSED_IMAGE_LENGTH = 4,
+    YARD_REFUSED_DIRECTORY = 5,
+    /* of the caller's source and tables */
+    YARD_REFUSED_SOURCE = 6,
+    YARD_REFUSED_TABLE_TOO_SHORT = 7,
+    /* of a page: answer[2] is the page, answer[3] the offset */
+    YARD_REFUSED_UNKNOWN_CODE = 8,
+    YARD_REFUSED_PAGE_OVERRUN = 9,
+    YARD_REFUSED_STATION_ORDER = 10,
+    YARD_REFUSED_MOVE_BEFORE_STATION = 11,
+    YARD_REFUSED_TARGET = 12,
+    YARD_REFUSED_TIME_ZERO = 13,
+    YARD_REFUSED_BYTE_AFTER_END = 14,
+    /* of a route */
+    YARD_REFUSED_ROUTE_STATION = 15,
+    YARD_REFUSED_ROUTE_CHAIN = 16,
+    YARD_REFUSED_ROUTE_ROOM = 17
 };
+
+/* A refusal's meaning in words; of 0 "accepted". The string is constant and is never null. */
+static inline const char *yard_refusal_meaning(uint32_t refusal)
+{
+    switch (refusal) {
+    case YARD_ACCEPTED: return "accepted";
+    case YARD_REFUSED_IMAGE_TOO_SHORT: return "image under 4 bytes";
+    case YARD_REFUSED_STATION_COUNT: return "number of stations is 0 or over 2,048";
+    case YARD_REFUSED_PAGE_COUNT: return "number of pages is 0 or over 240";
+    case YARD_REFUSED_IMAGE_LENGTH: return "image is not as long as its heading says";
+    case YARD_REFUSED_DIRECTORY: return "directory gives a station a page that the map does not have";
+    case YARD_REFUSED_SOURCE: return "source is not a station of the map";
+    case YARD_REFUSED_TABLE_TOO_SHORT: return "a table has fewer entries than the map has stations";
+    case YARD_REFUSED_UNKNOWN_CODE: return "unknown command code";
+    case YARD_REFUSED_PAGE_OVERRUN: return "command passes the page's end, or the page has no end command";
+    case YARD_REFUSED_STATION_ORDER: return "not the next station of the page, or one is missing at the end";
+    case YARD_REFUSED_MOVE_BEFORE_STATION: return "move before a station";
+    case YARD_REFUSED_TARGET: return "target is not a station of the map, is the station itself, or does not rise";
+    case YARD_REFUSED_TIME_ZERO: return "move takes no time";
+    case YARD_REFUSED_BYTE_AFTER_END: return "byte other than 00 after the end";
+    case YARD_REFUSED_ROUTE_STATION: return "no predecessors or over 2,048, or no such station among them";
+    case YARD_REFUSED_ROUTE_CHAIN: return "predecessors do not lead to a source";
+    case YARD_REFUSED_ROUTE_ROOM: return "output is shorter than the route";
+    default: return "not a refusal of this version";
+    }
+}
+
+/* The number of stations N of an image, 1 to YARD_MAX_STATIONS; 0 where a call would be refused by 1 or 2. */
+static inline size_t yard_stations(const uint8_t *image, size_t image_len)
+{
+    size_t stations = image_len < 4 ? 0 : image[0] + (size_t)256 * image[1];
+    return stations <= YARD_MAX_STATIONS ? stations : 0;
+}
 
 /* The whole check of a map: refusals 1 to 5, then every page by rising number. */
 uint32_t yard_check(const uint8_t *image, size_t image_len, uint32_t *answer, size_t answer_len);
 
 /*
- * The two searches from a source. Each table needs an entry for each of the map's N stations (refusal 7).
+ * The two searches from a source: yard_plain is Dijkstra's, yard_df fetches fewer pages or as many. Each table needs an
+ * entry for each of the map's N stations (refusal 7), and YARD_MAX_STATIONS entries are enough for every map.
+ *     times    the least time to each station, in tenths of a second
+ *     preds    the station before it on the way, of several with that time the lowest
+ *     marks    working bytes of the search, which hold nothing for the caller
+ *     list     the pages in the order in which they were fetched, a page once for each time
  * Accepted: the first N entries of times, preds and marks are written (a station without a time has YARD_NO_TIME and
- * YARD_NO_PREDECESSOR; the source has YARD_SOURCE; marks are 0), list holds answer[0] pages in the order in which they
- * were fetched, and answer[1] stations have a time. Later entries are kept.
+ * YARD_NO_PREDECESSOR; the source has time 0 and YARD_SOURCE; marks are 0), list holds answer[0] pages, and answer[1]
+ * stations have a time. Later entries are kept.
  * Refused by 1 to 7: every table is untouched. Refused by 8 to 14: the first N entries are as if no station had a time,
  * and list holds the answer[0] pages fetched, the bad one last.
- * Both give the same times and predecessors. The list of yard_df is that of yard_plain with some entries left out or none.
+ * Where both accept, they give the same times and predecessors. The list of yard_df is that of yard_plain with some
+ * entries left out or none.
  */
 uint32_t yard_plain(const uint8_t *image, size_t image_len, uint16_t source,
                     uint32_t *times, size_t times_len, uint16_t *preds, size_t preds_len,
@@ -71,8 +142,9 @@ uint32_t yard_df(const uint8_t *image, size_t image_len, uint16_t source,
                  uint32_t *answer, size_t answer_len);
 
 /*
- * The stations from the source to a station, by the predecessors that a search left (exactly N of them). out gets
- * answer[0] stations, later entries kept. A station without a way returns 0 with answer[0] = 0 and writes nothing.
+ * The stations from the source to a station, by the predecessors that a search left (exactly N of them: preds_len is
+ * yard_stations of the image). out gets answer[0] stations, later entries kept. A station without a way returns 0 with
+ * answer[0] = 0 and writes nothing. Any refusal (15 to 17) writes nothing either.
  */
 uint32_t yard_route(const uint16_t *preds, size_t preds_len, uint16_t station, uint16_t *out, size_t out_len,
                     uint32_t *answer, size_t answer_len);
