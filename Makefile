@@ -1,41 +1,57 @@
-.PHONY: run test cases layers coils-test c-example fuzz bench libyard
+.PHONY: run test cases layers coils-test c-example stack fuzz bench libyard help
 
-# Builds the program and runs it on document 01's example and on a plate yard, whose pages are entered again and again.
+# Proves and builds the program coils and runs it on document 01's example and on a plate yard.
 run:
 	rt check coils
-	cd crates/coils/data && $(CURDIR)/target/bin/coils <../stdin | tee $(CURDIR)/target/course.out
+	cd crates/coils/data && "$(CURDIR)/target/bin/coils" <../stdin | tee "$(CURDIR)/target/course.out"
 	cmp target/course.out crates/coils/stdout
-	cd examples/plate && $(CURDIR)/target/bin/coils <records | tee $(CURDIR)/target/plate.out
+	cd examples/plate && "$(CURDIR)/target/bin/coils" <records | tee "$(CURDIR)/target/plate.out"
 	cmp target/plate.out examples/plate/expected
+	@echo 'Both examples came out as stored.'
 
-# The gate: every crate proved, every must-fail edit refused, every program's output as stored.
+# The gate, from nothing: every crate proved, every must-fail edit refused, every program's output as stored.
 test:
 	bash .ci/run
 
 # Compares the stored test cases and expected outputs with what their generators write (needs Python 3).
 cases: layers
-	python3 tests/make_page_cases.py --check
-	python3 tests/make_search_cases.py --check
-	python3 tests/make_route_cases.py --check
-	python3 tests/make_coils_examples.py --check
+	@python3 tests/make_page_cases.py --check
+	@python3 tests/make_search_cases.py --check
+	@python3 tests/make_route_cases.py --check
+	@python3 tests/make_coils_examples.py --check
 
-# The search never looks at page bytes (01): only the crate page may index an image or a page, or call what does.
+# What would look at page bytes, by the names that the sources use: a slice under another name escapes this.
+LOOKS := \b(page|image)\[|(byte_at|word_at|part_of|command_at)\((page|image)\b
+ABOVE_PAGE := relax steps search coil yard
+
+# Looks in the sources of the crates above page for an index of, or a byte read from, a slice called page or image.
 layers:
-	! grep -nE '\b(page|image)\[|(byte_at|word_at|part_of|command_at)\((page|image)\b' crates/relax/src/*.rt crates/steps/src/*.rt crates/search/src/*.rt
+	@grep -nE '$(LOOKS)' $(ABOVE_PAGE:%=crates/%/src/*.rt); test $$? = 1
+	@echo 'layers: no page bytes looked at in $(ABOVE_PAGE)'
 
 # Runs the built program from outside: missing and oversized maps, records cut short, a slow writer (needs Python 3).
 coils-test:
 	rt check coils
 	python3 tests/coils_outside.py
 
-# Proves the engine and writes target/staticlib/libyard.a; rt does again only what has changed.
+# Proves the C interface and what is below it, and writes target/staticlib/libyard.a.
 libyard:
 	rt staticlib yard
 
-# Builds and runs the C program of README.md on the example's map (needs a C compiler).
+C99 := $(CC) -std=c99 -O2 -Wall -Wextra -Werror -pedantic -Iinclude
+
+# Builds the C program of README.md and runs it once for each of its statuses 0 to 3 (needs a C compiler).
 c-example: libyard
-	$(CC) -std=c99 -Wall -Wextra -Werror -Iinclude -o target/way examples/way.c target/staticlib/libyard.a
+	$(C99) -o target/way examples/way.c target/staticlib/libyard.a
 	target/way crates/coils/data/yard.map 0 6
+	target/way examples/plate/yard.map 396 0; test $$? = 1
+	target/way crates/coils/data/yard.map 0 -1; test $$? = 2
+	target/way crates/coils/data/yard.map 6 0; test $$? = 3
+
+# Measures the stack of each call of the C interface, on full and on damaged maps (needs a C compiler and ucontext).
+stack: libyard
+	$(C99) -D_XOPEN_SOURCE=700 -o target/stack bench/stack.c target/staticlib/libyard.a
+	target/stack
 
 COUNT ?= 20000
 SEED ?= 1
@@ -62,3 +78,8 @@ target/outside/fuzz: $(OUTSIDE) $(wildcard outside/fuzz/*.rs) libyard
 
 target/outside/bench: $(OUTSIDE) $(wildcard bench/*.rs) libyard
 	$(RUSTC) $(LINKED) -o $@ bench/main.rs
+
+# Lists the targets, each by the comment above it.
+help:
+	@awk -F: '/^# / { text = substr($$0, 3); next } \
+	    /^[a-z][a-z-]*:/ && text { printf "make %-11s %s\n", $$1, text } { text = "" }' Makefile

@@ -1,0 +1,214 @@
+/*
+ * How much stack the calls of include/yard.h use. Each call is made on a painted stack of its own, on full maps and on
+ * damaged ones; what it wrote shows in the paint. Prints the most that was seen of each call, and ends with status 1 if
+ * that is not below the header's 256 KiB.
+ */
+#include <stdio.h>
+#include <stdlib.h>
+#include <string.h>
+#include <ucontext.h>
+#include "yard.h"
+
+#define STACK_BYTES ((size_t)512 * 1024)
+#define PROMISED ((size_t)256 * 1024)
+#define FULL_MAPS 6
+#define DAMAGED_OF_EACH 400
+
+static uint8_t stack[STACK_BYTES];
+static ucontext_t outside, inside;
+
+/* The call in hand: its arguments, and what it returned. */
+static uint8_t image[YARD_MAX_IMAGE_BYTES];
+static size_t image_len;
+static uint16_t source, station;
+static uint32_t times[YARD_MAX_STATIONS], answer[4], returned;
+static uint16_t preds[YARD_MAX_STATIONS], way[YARD_MAX_STATIONS];
+static uint8_t marks[YARD_MAX_STATIONS], list[YARD_MAX_STATIONS];
+static size_t preds_len, way_len;
+
+static void nothing(void)
+{
+    returned = YARD_ACCEPTED;
+}
+
+static void check(void)
+{
+    returned = yard_check(image, image_len, answer, 4);
+}
+
+static void plain(void)
+{
+    returned = yard_plain(image, image_len, source, times, YARD_MAX_STATIONS, preds, YARD_MAX_STATIONS,
+                          marks, YARD_MAX_STATIONS, list, YARD_MAX_STATIONS, answer, 4);
+}
+
+static void df(void)
+{
+    returned = yard_df(image, image_len, source, times, YARD_MAX_STATIONS, preds, YARD_MAX_STATIONS,
+                       marks, YARD_MAX_STATIONS, list, YARD_MAX_STATIONS, answer, 4);
+}
+
+static void route(void)
+{
+    returned = yard_route(preds, preds_len, station, way, way_len, answer, 4);
+}
+
+/* What was seen of a call: the most bytes, and how often it was accepted and refused. */
+struct seen {
+    const char *name;
+    void (*call)(void);
+    size_t most;
+    unsigned long accepted, refused;
+};
+
+static struct seen base = {"nothing", nothing, 0, 0, 0};
+static struct seen of_check = {"yard_check", check, 0, 0, 0};
+static struct seen of_plain = {"yard_plain", plain, 0, 0, 0};
+static struct seen of_df = {"yard_df", df, 0, 0, 0};
+static struct seen of_route = {"yard_route", route, 0, 0, 0};
+
+/* The bytes from the lowest one that is no longer paint to the stack's end, after the call on a stack of that paint. */
+static size_t used_on(uint8_t paint, void (*call)(void))
+{
+    size_t untouched = 0;
+
+    memset(stack, paint, STACK_BYTES);
+    if (getcontext(&inside) != 0)
+        abort();
+    inside.uc_stack.ss_sp = stack;
+    inside.uc_stack.ss_size = STACK_BYTES;
+    inside.uc_link = &outside;
+    makecontext(&inside, call, 0);
+    if (swapcontext(&outside, &inside) != 0)
+        abort();
+    while (untouched < STACK_BYTES && stack[untouched] == paint)
+        untouched++;
+    return STACK_BYTES - untouched;
+}
+
+/* Makes the call on two paints, so that no byte passes for paint by chance, and notes the greater use. */
+static void measure(struct seen *seen)
+{
+    size_t one = used_on(0xA5, seen->call), other = used_on(0x5A, seen->call), most = one > other ? one : other;
+
+    if (most > seen->most)
+        seen->most = most;
+    if (returned == YARD_ACCEPTED)
+        seen->accepted++;
+    else
+        seen->refused++;
+}
+
+/* Numbers below a limit, the same in every run (a linear congruence of 64 bits). */
+static uint32_t below(uint32_t limit)
+{
+    static uint64_t state = 1;
+
+    state = state * UINT64_C(6364136223846793005) + UINT64_C(1442695040888963407);
+    return (uint32_t)(state >> 33) % limit;
+}
+
+static size_t put_word(size_t at, uint32_t word)
+{
+    image[at] = (uint8_t)(word % 256);
+    image[at + 1] = (uint8_t)(word / 256);
+    return at + 2;
+}
+
+/* A station with up to five moves: one to each fifth of the map, so that the targets rise. */
+static size_t put_station(size_t at, uint32_t own, uint32_t longest)
+{
+    uint32_t fifth, part = YARD_MAX_STATIONS / 5;
+
+    image[at++] = 1;
+    at = put_word(at, own);
+    for (fifth = 0; fifth < 5; fifth++) {
+        uint32_t target = fifth * part + below(part);
+        if (target == own)
+            continue;
+        image[at++] = 2;
+        at = put_word(at, target);
+        at = put_word(at, 1 + below(longest));
+    }
+    return at;
+}
+
+/* A full map: all stations, all pages, in rows of neighbours (kind even) or dealt out; times up to a longest one. */
+static void put_full_map(uint32_t kind)
+{
+    static const uint32_t longest[] = {1, 10, 65535};
+    size_t directory = 4, pages = directory + YARD_MAX_STATIONS, ends[YARD_MAX_PAGES] = {0};
+    uint32_t own;
+
+    memset(image, 0, sizeof image);
+    image_len = sizeof image;
+    put_word(put_word(0, YARD_MAX_STATIONS), YARD_MAX_PAGES);
+    for (own = 0; own < YARD_MAX_STATIONS; own++) {
+        uint32_t page = kind % 2 == 0 ? own * YARD_MAX_PAGES / YARD_MAX_STATIONS : own % YARD_MAX_PAGES;
+        size_t begins = pages + (size_t)page * YARD_PAGE_BYTES;
+        image[directory + own] = (uint8_t)page;
+        ends[page] = put_station(begins + ends[page], own, longest[kind / 2 % 3]) - begins;
+    }
+}
+
+/* The four calls on the map in hand; the route on the predecessors that the DF search left, or on damaged ones. */
+static void measure_all(void)
+{
+    source = (uint16_t)below(YARD_MAX_STATIONS);
+    measure(&of_check);
+    measure(&of_plain);
+    measure(&of_df);
+    preds_len = yard_stations(image, image_len);
+    station = (uint16_t)below(YARD_MAX_STATIONS);
+    way_len = YARD_MAX_STATIONS;
+    measure(&of_route);
+    way_len = below(8);
+    measure(&of_route);
+    way_len = YARD_MAX_STATIONS;
+    preds[station] = station;
+    measure(&of_route);
+}
+
+/* Damages one byte of the map in hand at a time, takes it back, and now and then cuts the map short. */
+static void measure_damaged(void)
+{
+    int turn;
+
+    for (turn = 0; turn < DAMAGED_OF_EACH; turn++) {
+        size_t at = turn % 4 == 0 ? below(4 + YARD_MAX_STATIONS) : below((uint32_t)sizeof image);
+        uint8_t kept = image[at];
+        image[at] = (uint8_t)below(256);
+        image_len = turn % 16 == 0 ? below((uint32_t)sizeof image) : sizeof image;
+        measure_all();
+        image[at] = kept;
+        image_len = sizeof image;
+    }
+}
+
+/* The line of a call; the bytes that a call of nothing takes are the context's own. */
+static int told(const struct seen *seen)
+{
+    size_t bytes = seen->most - base.most;
+
+    printf("%-10s %6lu bytes at most (%lu accepted, %lu refused)\n", seen->name, (unsigned long)bytes,
+           seen->accepted, seen->refused);
+    return bytes < PROMISED;
+}
+
+int main(void)
+{
+    uint32_t kind;
+    int kept;
+
+    measure(&base);
+    for (kind = 0; kind < FULL_MAPS; kind++) {
+        put_full_map(kind);
+        measure_all();
+        measure_damaged();
+    }
+    kept = told(&of_check);
+    kept &= told(&of_plain);
+    kept &= told(&of_df);
+    kept &= told(&of_route);
+    return kept ? 0 : 1;
+}
