@@ -6,12 +6,12 @@ use mathlib.Core.Bool.{Bool, false, not, _||_}
 use Prim.Native.Nat.{ℕ, _+_}
 use lib.ListN.{getD, take}
 use lib.Dec.{eqb}
-use Rattle.net.specs.Net.{Move, Page, good, Frame, one}
-use Rattle.net.specs.Search.{State, pick, timeOf, predOf, isFresh, withTables, settle, markFresh, start, least}
+use Rattle.net.specs.Net.{Move, Page, good, bad, Frame, one}
+use Rattle.net.specs.Search.{State, refused, pick, timeOf, predOf, isFresh, withTables, settle, markFresh, start, least}
 use Rattle.net.specs.Search.{choose}
 use Rattle.net.specs.Search.{chooseOn, onChoice, iter, readFor, relax, relaxAll, visit, workTurn, workThrough}
 use Rattle.net.specs.Search.{dfVisit, noneOrLess, stepBy, searchBy, dfSearch}
-use Rattle.net.proofs.Laws.{afterDf}
+use Rattle.net.proofs.After.{afterDf}
 
 abbrev to : ℕ → ℕ → Move
 to v w = record { target = v; weight = w }
@@ -99,6 +99,16 @@ pub lowest-predecessor-counts :
 unfolding iter least relax relaxAll visit choose chooseOn workTurn workThrough readFor dfVisit stepBy searchBy
     start dfSearch
 lowest-predecessor-counts = (refl, refl, refl)
+
+-- Page 1 of M7 is bad (C7): the search is refused, and does not take it for a page without moves.
+abbrev m7-bad-page : ℕ → Page
+m7-bad-page p = pick (eqb p 1) (bad 8 0) (m7-page p)
+
+pub bad-page-ends-the-search :
+    ((dfSearch m7 m7-bad-page 0) .halt ≡ refused 8 1 0) × ((dfSearch m7 m7-bad-page 0) .pages ≡ 0 ∷ 1 ∷ [])
+unfolding iter least relax relaxAll visit choose chooseOn workTurn workThrough readFor dfVisit stepBy searchBy
+    start dfSearch
+bad-page-ends-the-search = (refl, refl)
 
 -- A store of a number of frames, least recently used out: the pages held, the latest first, and its reads of a list.
 abbrev holds : ℕ → List ℕ → Bool

@@ -17,6 +17,7 @@ use Rattle.net.specs.Search.{noneOrLess}
 use Rattle.net.specs.Search.{stepBy, searchBy, plainSearch, dfSearch}
 use Rattle.net.specs.Demands.{LeastTimes, RefusedPage, ListOf, AgreeOn}
 use Rattle.net.proofs.Sound.{Sound}
+use Rattle.net.proofs.After.{afterPlain, afterDf}
 use Rattle.net.proofs.Basics.Count.{count-le}
 use Rattle.net.proofs.Basics.Lists.{part-reads}
 use Rattle.net.proofs.Relaxing.Relax.{Tables}
@@ -33,14 +34,6 @@ use Rattle.net.proofs.Searches.Together.{chosen-least, chosen-rising}
 use Rattle.net.proofs.Searches.OneComparison.{visit-one, turns-one, loop-one, plain-visit-one, df-visit-one, run-one}
 use Rattle.net.proofs.PageLists.Often.{often-entered}
 use Rattle.net.proofs.Local.{search-local, plain-visit-local, df-visit-local}
-
--- The state of either search after n steps.
-module _ (F : Frame) (page : ℕ → Page) (source : ℕ) where
-  abbrev pub afterPlain : ℕ → State
-  afterPlain n = iter (stepBy F (plainVisit F (noneOrLess F) page)) n (start F source)
-
-  abbrev pub afterDf : ℕ → State
-  afterDf n = iter (stepBy F (dfVisit F (noneOrLess F) page)) n (start F source)
 
 module _ (F : Frame) (page : ℕ → Page) (source : ℕ) (ok : Sound F page source) where
   abbrev plain : State
