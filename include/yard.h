@@ -15,8 +15,11 @@
  * A slice is passed as a pointer and a length in entries; a length of 0 needs a pointer that is not null. The slices
  * of one call must not overlap. No call allocates, and none keeps a pointer.
  *
- * Threads: the library has no data of its own, only code, so that calls may run at the same time in any threads, also
- * on the same image, as long as no thread uses memory that another thread's call is writing.
+ * Units: times are in tenths of a second, offsets in bytes, lengths in entries. The length of a strip, in decimetres,
+ * stands in coil records only (README.md), which no call of this interface takes.
+ *
+ * Threads: the library has no variables of its own, so that calls may run at the same time in any threads, also on the
+ * same image, as long as no thread uses memory that another thread's call is writing.
  *
  * Stack: a call's stack use stays below 256 KiB. The most that was seen, in bytes, arguments included (`make stack` on
  * x86-64: full maps and damaged ones):
