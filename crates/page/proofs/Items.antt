@@ -8,7 +8,7 @@ use lib.ListN.{length, set, length-set}
 use Rattle.page.specs.declared.Move.{Move}
 use Rattle.page.specs.declared.Command.{Command}
 use Rattle.page.specs.declared.Command.the-variants.{End, Station, MoveTo, Fault}
-use Rattle.page.specs.Reading.{commandAt}
+use Rattle.page.specs.Reading.{widthOf, commandAt}
 use Rattle.page.specs.Walk.{Item, station, move, itemsFrom, itemsAt, firstMoves, movesAt, noted}
 use Rattle.page.proofs.Lengths.{command-past}
 
@@ -17,8 +17,10 @@ module _ (page : List ℕ) where
     enough-cases : (x : Command) → commandAt page at ≡ x → itemsFrom (suc f) page at ≡ itemsFrom (suc g) page at
     unfolding itemsFrom
     enough-cases End e = rw (e, itemsFrom)
-    enough-cases (Station v) e = rw (e, itemsFrom) (ap (λ l. station v (at + 3) ∷ l) (ih (at + 3) (omega arith)))
-    enough-cases (MoveTo m) e = rw (e, itemsFrom) (ap (λ l. move m ∷ l) (ih (at + 5) (omega arith)))
+    enough-cases (Station v) e =
+        let next = at + widthOf (Station v) in
+        rw (e, itemsFrom) (ap (λ l. station v next ∷ l) (ih next (omega arith)))
+    enough-cases (MoveTo m) e = rw (e, itemsFrom) (ap (λ l. move m ∷ l) (ih (at + widthOf (MoveTo m)) (omega arith)))
     enough-cases (Fault number) e = rw (e, itemsFrom)
 
   none-at-fault : (f at number : ℕ) → commandAt page at ≡ Fault number → itemsFrom f page at ≡ []
@@ -54,19 +56,22 @@ module _ (page : List ℕ) where
     items-fault number e = none-at-fault (suc (length page)) at number e
 
     pub items-station : (v : ℕ) → commandAt page at ≡ Station v
-        → itemsAt page at ≡ station v (at + 3) ∷ itemsAt page (at + 3)
+        → let next = at + widthOf (Station v) in itemsAt page at ≡ station v next ∷ itemsAt page next
     unfolding itemsAt itemsFrom
     items-station v e =
-        rw (e, itemsFrom) (ap (λ l. station v (at + 3) ∷ l) (turns-left (at + 3) (omega arith)))
+        let next = at + widthOf (Station v) in
+        rw (e, itemsFrom) (ap (λ l. station v next ∷ l) (turns-left next (omega arith)))
 
-    pub items-move : (m : Move) → commandAt page at ≡ MoveTo m → itemsAt page at ≡ move m ∷ itemsAt page (at + 5)
+    pub items-move : (m : Move) → commandAt page at ≡ MoveTo m
+        → itemsAt page at ≡ move m ∷ itemsAt page (at + widthOf (MoveTo m))
     unfolding itemsAt itemsFrom
     items-move m e =
-        rw (e, itemsFrom) (ap (λ l. move m ∷ l) (turns-left (at + 5) (omega arith)))
+        rw (e, itemsFrom) (ap (λ l. move m ∷ l) (turns-left (at + widthOf (MoveTo m)) (omega arith)))
 
 -- What `next_move` answers, by the command that it finds.
 module _ (page : List ℕ) (at : ℕ) where
-  pub moves-next : (m : Move) → commandAt page at ≡ MoveTo m → movesAt page at ≡ m ∷ movesAt page (at + 5)
+  pub moves-next : (m : Move) → commandAt page at ≡ MoveTo m
+      → movesAt page at ≡ m ∷ movesAt page (at + widthOf (MoveTo m))
   unfolding firstMoves
   moves-next m e = ap firstMoves (items-move page at m e)
 
@@ -85,12 +90,13 @@ module _ (page : List ℕ) (at : ℕ) where
 -- What the page reader has still to note, by the command that it finds.
 module _ (page : List ℕ) (at : ℕ) (starts : List ℕ) where
   pub note-station : (v : ℕ) → commandAt page at ≡ Station v
-      → noted (itemsAt page (at + 3)) (set starts v (at + 3)) ≡ noted (itemsAt page at) starts
+      → let next = at + widthOf (Station v) in
+      noted (itemsAt page next) (set starts v next) ≡ noted (itemsAt page at) starts
   unfolding noted
   note-station v e = sym (ap (λ l. noted l starts) (items-station page at v e))
 
   pub note-move : (m : Move) → commandAt page at ≡ MoveTo m
-      → noted (itemsAt page (at + 5)) starts ≡ noted (itemsAt page at) starts
+      → noted (itemsAt page (at + widthOf (MoveTo m))) starts ≡ noted (itemsAt page at) starts
   unfolding noted
   note-move m e = sym (ap (λ l. noted l starts) (items-move page at m e))
 

@@ -13,7 +13,8 @@ use Rattle.page.specs.declared.Command.the-variants.{End, Station, MoveT
 use Rattle.page.specs.Bytes.{pick}
 use Rattle.page.specs.Image.{Outcome, accepted, refused, nowhere, at-station, on-page, headingCheck}
 use Rattle.page.specs.Image.{stationCount, pageCount, directoryOf, pageBytes, firstNotBelow}
-use Rattle.page.specs.Reading.{Reading, good, bad, withMove, withStation, nextOn, judgedAt, readFrom, readPage}
+use Rattle.page.specs.Reading.{Reading, good, bad, withMove, withStation}
+use Rattle.page.specs.Reading.{widthOf, nextOn, judgedAt, readFrom, readPage}
 use Rattle.page.specs.Check.{readingOf, pageOutcome, pagesFrom, afterHeading, wholeCheck}
 use Rattle.page.proofs.Lengths.{Within, judged-within}
 
@@ -41,11 +42,11 @@ module _ (directory : List ℕ) (p : ℕ) (page : List ℕ) where
   unfolding readFrom
   command-in f at after least h End e w ih = rw (e, readFrom) tt
   command-in f at after least h (Station v) e w ih =
-      let following = readFrom directory p page f (at + 3) (v + 1) 0 in
-      rw (e, readFrom) (after-station v following (ih (at + 3) (v + 1) 0 w))
+      let following = readFrom directory p page f (at + widthOf (Station v)) (v + 1) 0 in
+      rw (e, readFrom) (after-station v following (ih (at + widthOf (Station v)) (v + 1) 0 w))
   command-in f at after least h (MoveTo m) e w ih =
-      let following = readFrom directory p page f (at + 5) after (m .target + 1) in
-      rw (e, readFrom) (after-move m following (ih (at + 5) after (m .target + 1) w))
+      let following = readFrom directory p page f (at + widthOf (MoveTo m)) after (m .target + 1) in
+      rw (e, readFrom) (after-move m following (ih (at + widthOf (MoveTo m)) after (m .target + 1) w))
   command-in f at after least h (Fault number) e w ih = rw (e, readFrom) h
 
   read-in : (f at after least : ℕ) → at ≤ length page → In (readFrom directory p page f at after least)

@@ -14,7 +14,7 @@ use Rattle.page.specs.declared.Command.{Command}
 use Rattle.page.specs.declared.Command.the-variants.{End, Station, MoveTo, Fault}
 use Rattle.page.specs.Bytes.{allZero, Bytes}
 use Rattle.page.specs.Reading.{Reading, good, bad, Leaving, withMove, withStation}
-use Rattle.page.specs.Reading.{commandAt, nextOn, judgedAt, readFrom, readPage}
+use Rattle.page.specs.Reading.{widthOf, commandAt, nextOn, judgedAt, readFrom, readPage}
 use Rattle.page.specs.Walk.{itemsFrom, itemsAt, firstMoves, stationsIn}
 use Rattle.page.specs.Good.{stationsFrom, GoodMoves, GoodStations, names, GoodContent}
 use Rattle.page.specs.Good.{spellMove, spellMoves, spellStations, spelled}
@@ -70,8 +70,8 @@ module _ (directory : List ℕ) (p : ℕ) (page : List ℕ) (bytes : Bytes page)
         }
 
     kept-station : (v : ℕ) → commandAt page at ≡ Station v
-        → StationHolds (length directory) (nextOn directory p after) v → (r : Reading) → KeptBy f (at + 3) (v + 1) 0 r
-        → KeptBy (suc f) at after least (withStation v r)
+        → StationHolds (length directory) (nextOn directory p after) v → (r : Reading)
+        → KeptBy f (at + widthOf (Station v)) (v + 1) 0 r → KeptBy (suc f) at after least (withStation v r)
     unfolding itemsFrom firstMoves stationsIn spellMoves spellStations
     kept-station v e h (good moves stations) k = record {
       moves-read = rw (e, itemsFrom);
@@ -86,7 +86,8 @@ module _ (directory : List ℕ) (p : ℕ) (page : List ℕ) (bytes : Bytes page)
     kept-station v e h (bad number offset) k = tt
 
     kept-move : (m : Move) → commandAt page at ≡ MoveTo m → MoveHolds (length directory) after least m
-        → (r : Reading) → KeptBy f (at + 5) after (m .target + 1) r → KeptBy (suc f) at after least (withMove m r)
+        → (r : Reading) → KeptBy f (at + widthOf (MoveTo m)) after (m .target + 1) r
+        → KeptBy (suc f) at after least (withMove m r)
     unfolding itemsFrom firstMoves stationsIn spellMoves
     kept-move m e h (good moves stations) k = record {
       moves-read = rw (e, itemsFrom) (ap (λ l. m ∷ l) (k .moves-read));
@@ -118,12 +119,12 @@ module _ (directory : List ℕ) (p : ℕ) (page : List ℕ) (bytes : Bytes page)
         rw (e, readFrom) (kept-end (j .0) (j .1))
     kept-cases (Station v) e ih =
         let j = judged-station page at (length directory) (nextOn directory p after) after least v e in
-        let following = readFrom directory p page f (at + 3) (v + 1) 0 in
-        rw (e, readFrom) (kept-station v (j .0) (j .1) following (ih (at + 3) (v + 1) 0))
+        let following = readFrom directory p page f (at + widthOf (Station v)) (v + 1) 0 in
+        rw (e, readFrom) (kept-station v (j .0) (j .1) following (ih (at + widthOf (Station v)) (v + 1) 0))
     kept-cases (MoveTo m) e ih =
         let j = judged-move page at (length directory) (nextOn directory p after) after least m e in
-        let following = readFrom directory p page f (at + 5) after (m .target + 1) in
-        rw (e, readFrom) (kept-move m (j .0) (j .1) following (ih (at + 5) after (m .target + 1)))
+        let following = readFrom directory p page f (at + widthOf (MoveTo m)) after (m .target + 1) in
+        rw (e, readFrom) (kept-move m (j .0) (j .1) following (ih (at + widthOf (MoveTo m)) after (m .target + 1)))
     kept-cases (Fault number) e ih = rw (e, readFrom) tt
 
   kept : (f at after least : ℕ) → KeptBy f at after least (readFrom directory p page f at after least)

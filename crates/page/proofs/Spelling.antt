@@ -15,7 +15,7 @@ use Rattle.page.specs.declared.Move.{Move}
 use Rattle.page.specs.declared.Command.{Command}
 use Rattle.page.specs.declared.Command.the-variants.{End, Station, MoveTo, Fault}
 use Rattle.page.specs.Bytes.{pick, word, Bytes}
-use Rattle.page.specs.Reading.{lengthOf, commandAt}
+use Rattle.page.specs.Reading.{lengthOf, widthOf, commandAt}
 use Rattle.page.specs.Good.{spellMove}
 use Rattle.page.proofs.Lengths.{station-within, move-within}
 
@@ -93,13 +93,14 @@ module _ (page : List ℕ) (at : ℕ) where
         (omega arith, ap (λ k. getD page k 0) e ∙ omega arith)
 
     pub station-bytes : (v : ℕ) → commandAt page at ≡ Station v
-        → drop at page ≡ 1 ∷ v % 256 ∷ v / 256 ∷ drop (at + 3) page
+        → drop at page ≡ 1 ∷ v % 256 ∷ v / 256 ∷ drop (at + widthOf (Station v)) page
     station-bytes v e =
         let s = shape-of (Station v) e in
         let number = word-bytes (at + 1) (at + 2) v (omega arith) (s .1) in
         rw (three-bytes page at (station-within page at v e), s .0, number .0, number .1)
 
-    pub move-bytes : (m : Move) → commandAt page at ≡ MoveTo m → drop at page ≡ spellMove m (drop (at + 5) page)
+    pub move-bytes : (m : Move) → commandAt page at ≡ MoveTo m
+        → drop at page ≡ spellMove m (drop (at + widthOf (MoveTo m)) page)
     move-bytes m e =
         let s = shape-of (MoveTo m) e in
         let target = word-bytes (at + 1) (at + 2) (m .target) (omega arith) (s .1) in
@@ -115,7 +116,7 @@ module _ (page : List ℕ) (at : ℕ) where
   read-end rest e =
       let code : getD page at 0 ≡ 0 = rw add-zero at (byte-of page at 0 (0 ∷ rest) e) in
       let long : at < length page = omega (arith, length-drop at page, ap length e) in
-      rw (code, lt-leb (length page) at long, le-ltb (length page) (at + 1) (omega arith))
+      rw (code, lt-leb (length page) at long, le-ltb (length page) (at + lengthOf 0) (omega arith))
 
   pub read-station : (v : ℕ) (rest : List ℕ) → drop at page ≡ 1 ∷ v % 256 ∷ v / 256 ∷ rest
       → commandAt page at ≡ Station v
@@ -123,16 +124,16 @@ module _ (page : List ℕ) (at : ℕ) where
   read-station v rest e =
       let l : List ℕ = 1 ∷ v % 256 ∷ v / 256 ∷ rest in
       let code : getD page at 0 ≡ 1 = rw add-zero at (byte-of page at 0 l e) in
-      let long : at + 3 ≤ length page = omega (arith, length-drop at page, ap length e) in
+      let long : at + lengthOf 1 ≤ length page = omega (arith, length-drop at page, ap length e) in
       let number : word page (at + 1) ≡ v = omega (arith, word-of page at 1 l e) in
-      rw (code, lt-leb (length page) at (omega arith), le-ltb (length page) (at + 3) long, number)
+      rw (code, lt-leb (length page) at (omega arith), le-ltb (length page) (at + lengthOf 1) long, number)
 
   pub read-move : (m : Move) (rest : List ℕ) → drop at page ≡ spellMove m rest → commandAt page at ≡ MoveTo m
   unfolding commandAt
   read-move m rest e =
       let l = spellMove m rest in
       let code : getD page at 0 ≡ 2 = rw add-zero at (byte-of page at 0 l e) in
-      let long : at + 5 ≤ length page = omega (arith, length-drop at page, ap length e) in
+      let long : at + lengthOf 2 ≤ length page = omega (arith, length-drop at page, ap length e) in
       let target : word page (at + 1) ≡ m .target = omega (arith, word-of page at 1 l e) in
       let time : word page (at + 3) ≡ m .time = omega (arith, word-of page at 3 l e) in
-      rw (code, lt-leb (length page) at (omega arith), le-ltb (length page) (at + 5) long, target, time)
+      rw (code, lt-leb (length page) at (omega arith), le-ltb (length page) (at + lengthOf 2) long, target, time)

@@ -13,7 +13,7 @@ use Rattle.page.specs.declared.Move.{Move}
 use Rattle.page.specs.declared.Command.the-variants.{End, Station, MoveTo}
 use Rattle.page.specs.Bytes.{Bytes, allZero}
 use Rattle.page.specs.Reading.{Reading, good, Leaving, withMove, withStation, readFrom, readPage}
-use Rattle.page.specs.Reading.{commandAt, nextOn, judgeEnd, judgeStation, judgeMove, judge, judgedAt}
+use Rattle.page.specs.Reading.{widthOf, commandAt, nextOn, judgeEnd, judgeStation, judgeMove, judge, judgedAt}
 use Rattle.page.specs.Good.{stationsFrom, GoodMove, GoodMoves, GoodStations, names, GoodContent}
 use Rattle.page.specs.Good.{spellMove, spellMoves, spellStations, spelled}
 use Rattle.page.proofs.Stations.{some-next, none-next}
@@ -84,7 +84,8 @@ module _ (directory : List ℕ) (p : ℕ) (page : List ℕ) (zeros : ℕ) where
         rw (passes, readFrom)
 
     one-station : (v : ℕ) (rest named : List ℕ) (r : Reading) → drop at page ≡ 1 ∷ v % 256 ∷ v / 256 ∷ rest
-        → v ∷ named ≡ listed after → read f (at + 3) (v + 1) 0 ≡ r → read (suc f) at after least ≡ withStation v r
+        → v ∷ named ≡ listed after → read f (at + widthOf (Station v)) (v + 1) 0 ≡ r
+        → read (suc f) at after least ≡ withStation v r
     unfolding readFrom
     one-station v rest named r e q ih =
         let due = nextOn directory p after in
@@ -94,7 +95,7 @@ module _ (directory : List ℕ) (p : ℕ) (page : List ℕ) (zeros : ℕ) where
         rw (passes, readFrom) (ap (withStation v) ih)
 
     one-move : (m : Move) (rest : List ℕ) (own : ℕ) (r : Reading) → drop at page ≡ spellMove m rest → after ≡ own + 1
-        → GoodMove (length directory) own least m → read f (at + 5) after (m .target + 1) ≡ r
+        → GoodMove (length directory) own least m → read f (at + widthOf (MoveTo m)) after (m .target + 1) ≡ r
         → read (suc f) at after least ≡ withMove m r
     unfolding readFrom
     one-move m rest own r e q g ih =
@@ -115,9 +116,9 @@ module _ (directory : List ℕ) (p : ℕ) (page : List ℕ) (zeros : ℕ) where
   read-moves (m ∷ moves) stations f at own least h g e after-them =
       let rest = spellMoves moves (spellStations stations ending) in
       let t = some-turn f at 2 _ h e in
-      let e′ = behind page rest at 5 (spellMove m) (λ l. refl) e in
-      let h′ : length page < at + 5 + t .0 = omega (arith, t .1) in
-      let ih = read-moves moves stations (t .0) (at + 5) own (m .target + 1) h′ (g .1) e′ after-them in
+      let e′ = behind page rest at (widthOf (MoveTo m)) (spellMove m) (λ l. refl) e in
+      let h′ : length page < at + widthOf (MoveTo m) + t .0 = omega (arith, t .1) in
+      let ih = read-moves moves stations (t .0) (at + widthOf (MoveTo m)) own (m .target + 1) h′ (g .1) e′ after-them in
       rw (t .1) (one-move (t .0) at (own + 1) least m rest own (good moves stations) e refl (g .0) ih)
 
   read-stations : (stations : List Leaving) (f at after least : ℕ) → length page < at + f
@@ -132,9 +133,9 @@ module _ (directory : List ℕ) (p : ℕ) (page : List ℕ) (zeros : ℕ) where
       let rest = spellMoves (x .moves) (spellStations xs ending) in
       let t = some-turn f at 1 _ h e in
       let next = some-next directory p after v (names xs) (sym n) in
-      let e′ = behind page rest at 3 (λ l. 1 ∷ v % 256 ∷ v / 256 ∷ l) (λ l. refl) e in
-      let h′ : length page < at + 3 + t .0 = omega (arith, t .1) in
-      let ih = read-moves (x .moves) xs (t .0) (at + 3) v 0 h′ (g .1) e′
+      let e′ = behind page rest at (widthOf (Station v)) (λ l. 1 ∷ v % 256 ∷ v / 256 ∷ l) (λ l. refl) e in
+      let h′ : length page < at + widthOf (Station v) + t .0 = omega (arith, t .1) in
+      let ih = read-moves (x .moves) xs (t .0) (at + widthOf (Station v)) v 0 h′ (g .1) e′
       (λ k i l q d. read-stations xs k i (v + 1) l q (g .2) (next .2) d) in
       rw (t .1) (one-station (t .0) at after least v rest (names xs) (good (x .moves) xs) e n ih)
 

@@ -13,6 +13,13 @@ use Rattle.page.specs.Bytes.{pick, word, allZero}
 abbrev pub lengthOf : ℕ → ℕ
 lengthOf code = getD (1 ∷ 3 ∷ 5 ∷ []) code 0
 
+-- "one code byte and operands of fixed width": the width of a command that was read. A fault has none.
+abbrev pub widthOf : Command → ℕ
+widthOf End = lengthOf 0
+widthOf (Station v) = lengthOf 1
+widthOf (MoveTo m) = lengthOf 2
+widthOf (Fault number) = 0
+
 -- The command at an offset. 8: unknown code; 9: the command passes the page's last byte, or no `00` came before it.
 unfoldable pub commandAt : List ℕ → ℕ → Command
 commandAt page at =
@@ -88,8 +95,8 @@ module _ (directory : List ℕ) (p : ℕ) (page : List ℕ) where
   readFrom (suc commands) at after least =
       elim (judgedAt page at (length directory) (nextOn directory p after) after least) [
         | End ↦ good [] []
-        | Station v ↦ withStation v (readFrom commands (at + 3) (v + 1) 0)
-        | MoveTo m ↦ withMove m (readFrom commands (at + 5) after (m .target + 1))
+        | Station v ↦ withStation v (readFrom commands (at + widthOf (Station v)) (v + 1) 0)
+        | MoveTo m ↦ withMove m (readFrom commands (at + widthOf (MoveTo m)) after (m .target + 1))
         | Fault number ↦ bad number at
       ]
 

@@ -9,7 +9,7 @@ use Rattle.page.specs.declared.Move.{Move}
 use Rattle.page.specs.declared.Command.the-variants.{End, Station, MoveTo, Fault}
 use Rattle.page.specs.declared.MoveStep.{MoveStep}
 use Rattle.page.specs.declared.MoveStep.the-variants.{Next, NoMore}
-use Rattle.page.specs.Reading.{Leaving, commandAt, nextOn}
+use Rattle.page.specs.Reading.{Leaving, widthOf, commandAt, nextOn}
 
 -- A directory threaded by page: the first station of each page, and behind each station the next one of its page.
 pub record Threaded (directory first next : List ℕ) : Type 0 where
@@ -29,8 +29,8 @@ itemsFrom zero page at = []
 itemsFrom (suc commands) page at =
     elim (commandAt page at) [
       | End ↦ []
-      | Station v ↦ station v (at + 3) ∷ itemsFrom commands page (at + 3)
-      | MoveTo m ↦ move m ∷ itemsFrom commands page (at + 5)
+      | Station v ↦ station v (at + widthOf (Station v)) ∷ itemsFrom commands page (at + widthOf (Station v))
+      | MoveTo m ↦ move m ∷ itemsFrom commands page (at + widthOf (MoveTo m))
       | Fault number ↦ []
     ]
 
