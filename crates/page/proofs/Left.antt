@@ -9,7 +9,8 @@ use Rattle.page.specs.declared.Move.{Move}
 use Rattle.page.specs.declared.Command.{Command}
 use Rattle.page.specs.declared.Command.the-variants.{End, Station, MoveTo, Fault}
 use Rattle.page.specs.declared.Verdict.the-variants.{Good, Bad}
-use Rattle.page.specs.Reading.{Reading, good, bad, withMove, withStation, nextOn, judgedAt, readFrom, readPage}
+use Rattle.page.specs.Reading.{Reading, good, bad, withMove, withStation}
+use Rattle.page.specs.Reading.{widthOf, nextOn, judgedAt, readFrom, readPage}
 use Rattle.page.specs.Check.{verdictOf}
 use Rattle.page.specs.Walk.{Threaded}
 use Rattle.page.proofs.Lengths.{station-within, move-within}
@@ -64,48 +65,43 @@ module _ (directory : List ℕ) (p : ℕ) (page : List ℕ) where
         let read : readFrom directory p page (l .turns) at after least ≡ r = rw (turn .1) step in
         ap verdictOf (sym read) ∙ l .decides
 
-    pub move-room : (m : Move) → found ≡ MoveTo m → at + 5 ≤ length page
-    move-room m e = move-within page at m (judged-move page at (length directory) due after least m e .0)
-
-    pub left-move : (m : Move) → found ≡ MoveTo m → Left (at + 5) due after (m .target + 1)
+    pub left-move : (m : Move) → found ≡ MoveTo m → Left (at + widthOf (MoveTo m)) due after (m .target + 1)
     unfolding readFrom
     left-move m e =
-        let following = readFrom directory p page (turn .0) (at + 5) after (m .target + 1) in
+        let following = readFrom directory p page (turn .0) (at + widthOf (MoveTo m)) after (m .target + 1) in
         let step : readFrom directory p page (suc (turn .0)) at after least ≡ withMove m following =
         rw (judged (MoveTo m) e, readFrom) in
         record {
           turns = turn .0;
           enough = omega (arith, l .enough, turn .1);
-          within = move-room m e;
+          within = move-within page at m (judged-move page at (length directory) due after least m e .0);
           due-next = l .due-next;
           decides = sym (verdict-move m following) ∙ decided-by (withMove m following) step;
         }
-
-    pub station-room : (v : ℕ) → found ≡ Station v → at + 3 ≤ length page
-    station-room v e = station-within page at v (judged-station page at (length directory) due after least v e .0)
 
     pub station-known : (v : ℕ) → found ≡ Station v → (v < length directory) × (getD directory v 0 ≡ p)
     station-known v e =
         let k = judged-station page at (length directory) due after least v e .1 in
         (k .below, due-on directory p after v (k .below) (k .next ∙ l .due-next))
 
-    left-station : (v due′ : ℕ) → found ≡ Station v → due′ ≡ nextOn directory p (v + 1) → Left (at + 3) due′ (v + 1) 0
+    left-station : (v due′ : ℕ) → found ≡ Station v → due′ ≡ nextOn directory p (v + 1)
+        → Left (at + widthOf (Station v)) due′ (v + 1) 0
     unfolding readFrom
     left-station v due′ e q =
-        let following = readFrom directory p page (turn .0) (at + 3) (v + 1) 0 in
+        let following = readFrom directory p page (turn .0) (at + widthOf (Station v)) (v + 1) 0 in
         let step : readFrom directory p page (suc (turn .0)) at after least ≡ withStation v following =
         rw (judged (Station v) e, readFrom) in
         record {
           turns = turn .0;
           enough = omega (arith, l .enough, turn .1);
-          within = station-room v e;
+          within = station-within page at v (judged-station page at (length directory) due after least v e .0);
           due-next = q;
           decides = sym (verdict-station v following) ∙ decided-by (withStation v following) step;
         }
 
     -- the station due behind v, as the thread has it
     pub left-threaded : (first next : List ℕ) (v : ℕ) → Threaded directory first next → found ≡ Station v
-        → Left (at + 3) (getD next v 0) (v + 1) 0
+        → Left (at + widthOf (Station v)) (getD next v 0) (v + 1) 0
     left-threaded first next v t e =
         let k = station-known v e in
         left-station v (getD next v 0) e (t .next-on v (k .0) ∙ ap (λ q. nextOn directory q (v + 1)) (k .1))

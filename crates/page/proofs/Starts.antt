@@ -15,11 +15,11 @@ use Rattle.page.specs.declared.Move.{Move}
 use Rattle.page.specs.declared.Command.{Command}
 use Rattle.page.specs.declared.Command.the-variants.{End, Station, MoveTo, Fault}
 use Rattle.page.specs.Bytes.{Bytes}
-use Rattle.page.specs.Reading.{Leaving, good, movesOf, commandAt, readPage}
+use Rattle.page.specs.Reading.{Leaving, good, movesOf, widthOf, commandAt, readPage}
 use Rattle.page.specs.Walk.{Item, station, move, itemsAt, stationsIn, movesAt, noted, startsNoted, KeptOffPage}
 use Rattle.page.specs.Good.{stationsOn, names}
 use Rattle.page.proofs.Items.{none-past-end, items-end, items-fault, items-station, items-move}
-use Rattle.page.proofs.Items.{note-station, note-end}
+use Rattle.page.proofs.Items.{note-end}
 use Rattle.page.proofs.Stations.{on-page, listed-on, Rising, rising-above, rising-from}
 use Rattle.page.proofs.Promise.{promise}
 
@@ -62,31 +62,31 @@ module _ (page : List ℕ) (u : ℕ) where
 
   module _ (at : ℕ) (starts : List ℕ) (fits : u < length starts)
       (ih : (i least : ℕ) (t : List ℕ) → at < i → u < length t → Listed i least → Found i t) where
-    found-station : (v least : ℕ) → itemsAt page at ≡ station v (at + 3) ∷ itemsAt page (at + 3) → Listed at least
-        → Found at starts
+    found-station : (v least next : ℕ) → at < next → itemsAt page at ≡ station v next ∷ itemsAt page next
+        → Listed at least → Found at starts
     unfolding Found noted stationsIn
-    found-station v least e l =
-        let r : (least ≤ v) × Rising (v + 1) (named (at + 3)) = rw e at (l .0) in
-        let m : List·Memᴰ u (v ∷ named (at + 3)) = rw e at (l .1) in
-        let x : Leaving = record { station = v; moves = movesAt page (at + 3) } in
-        let following = stationsIn (itemsAt page (at + 3)) in
+    found-station v least next on e l =
+        let r : (least ≤ v) × Rising (v + 1) (named next) = rw e at (l .0) in
+        let m : List·Memᴰ u (v ∷ named next) = rw e at (l .1) in
+        let x : Leaving = record { station = v; moves = movesAt page next } in
+        let following = stationsIn (itemsAt page next) in
         rw e (dite (ℕ-discrete v u)
         (λ here.
-        let start = noted-here (itemsAt page (at + 3)) starts u (at + 3) fits (rw here at (r .1)) in
+        let start = noted-here (itemsAt page next) starts u next fits (rw here at (r .1)) in
         rw here (ap (movesAt page) start) ∙ sym (moves-here x following u here))
         (λ other.
         let after = ⊎-elim (λ k. absurd (other (sym k))) (λ k. k) (List·Memᴰ·cases-cons m) in
-        let still-fits : u < length (set starts v (at + 3)) = rw (length-set starts v (at + 3)) fits in
-        ih (at + 3) (v + 1) (set starts v (at + 3)) (omega arith) still-fits (r .1, after) ∙
-        sym (moves-later x following u other)))
+        let still-fits : u < length (set starts v next) = rw (length-set starts v next) fits in
+        ih next (v + 1) (set starts v next) on still-fits (r .1, after) ∙ sym (moves-later x following u other)))
 
     found-cases : (x : Command) (least : ℕ) → commandAt page at ≡ x → Listed at least → Found at starts
     unfolding Found noted stationsIn
     found-cases End least e l = absurd (List·Memᴰ·not-nil (rw (items-end page at e) at (l .1)))
-    found-cases (Station v) least e l = found-station v least (items-station page at v e) l
+    found-cases (Station v) least e l =
+        found-station v least (at + widthOf (Station v)) (omega arith) (items-station page at v e) l
     found-cases (MoveTo m) least e l =
         let q = items-move page at m e in
-        rw q (ih (at + 5) least starts (omega arith) fits (rw q at (l .0), rw q at (l .1)))
+        rw q (ih (at + widthOf (MoveTo m)) least starts (omega arith) fits (rw q at (l .0), rw q at (l .1)))
     found-cases (Fault number) least e l = absurd (List·Memᴰ·not-nil (rw (items-fault page at number e) at (l .1)))
 
   found-from : (turns at least : ℕ) (starts : List ℕ) → length page < at + turns → u < length starts → Listed at least
@@ -134,14 +134,16 @@ module _ (directory : List ℕ) (p : ℕ) (page before : List ℕ) where
         → Noting directory p page before starts later
     noting-later later e = record { wanted = e ∙ n .wanted; same = n .same; others = n .others }
 
-    pub noting-station : (v : ℕ) (after : List ℕ) → commandAt page at ≡ Station v → getD directory v 0 ≡ p
-        → after ≡ set starts v (at + 3) → Noting directory p page before after (at + 3)
-    noting-station v after e on stored = record {
-      wanted = ap (noted (itemsAt page (at + 3))) stored ∙ note-station page at starts v e ∙ n .wanted;
-      same = ap length stored ∙ length-set starts v (at + 3) ∙ n .same;
+    -- a station of the page noted
+    pub noting-station : (v next : ℕ) (after : List ℕ)
+        → noted (itemsAt page next) (set starts v next) ≡ noted (itemsAt page at) starts → getD directory v 0 ≡ p
+        → after ≡ set starts v next → Noting directory p page before after next
+    noting-station v next after e on stored = record {
+      wanted = ap (noted (itemsAt page next)) stored ∙ e ∙ n .wanted;
+      same = ap length stored ∙ length-set starts v next ∙ n .same;
       others = λ u off.
           ap (λ s. getD s u 0) stored ∙
-          getD-set-other starts v u (at + 3) 0 (λ same. off (ap (λ w. getD directory w 0) same ∙ on)) ∙
+          getD-set-other starts v u next 0 (λ same. off (ap (λ w. getD directory w 0) same ∙ on)) ∙
           n .others u off;
     }
 

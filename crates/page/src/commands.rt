@@ -11,16 +11,33 @@ use super::Move;
 use super::MoveStep;
 use super::bytes::word_at;
 
+// `00` ends a page.
+const END: u8 = 0;
+
+// `01` begins a station.
+pub const STATION: u8 = 1;
+
+// `02` is a move of the latest station.
+pub const MOVE: u8 = 2;
+
 // The length of a command by its code.
 const LENGTHS: [usize; 3] = [1, 3, 5];
 
+// The length of a command of a known code. Whatever passes over a command asks here.
+pub fn length_of(code: u8) -> usize
+    requires known { ⌜ code < 3 ⌝ }
+    ensures value { λ r. ⌜ r ≡ lengthOf code ⌝ }
+{
+    LENGTHS[code as usize]
+}
+
 // Whether a command of this code, which stands at an offset of a page, ends within it.
-fn fits(page: &[u8], at: usize, code: usize) -> bool
-    requires code { ⌜ code < 3 ⌝ }
+fn fits(page: &[u8], at: usize, code: u8) -> bool
+    requires known { ⌜ code < 3 ⌝ }
     requires inside { ⌜ at < length (now page) ⌝ }
     ensures value { λ r. ⌜ r ≡ leb (at + lengthOf code) (length (now (page .entry))) ⌝ }
 {
-    at + LENGTHS[code] <= page.len()
+    at + length_of(code) <= page.len()
 }
 
 // The command at an offset, or 8 or 9 as its fault. Each code is tested by itself, so that its length is known when the
@@ -32,22 +49,25 @@ pub fn command_at(page: &[u8], at: usize) -> Command
         return Command::Fault(9);
     }
     let code = page[at];
-    if code == 2 {
-        if fits(page, at, 2) {
+    if code == MOVE {
+        if fits(page, at, MOVE) {
             let target = word_at(page, at + 1);
             let time = word_at(page, at + 3);
             return Command::MoveTo(Move { target, time });
         }
         return Command::Fault(9);
     }
-    if code == 1 {
-        if fits(page, at, 1) {
+    if code == STATION {
+        if fits(page, at, STATION) {
             return Command::Station(word_at(page, at + 1));
         }
         return Command::Fault(9);
     }
-    if code == 0 {
-        return Command::End;
+    if code == END {
+        if fits(page, at, END) {
+            return Command::End;
+        }
+        return Command::Fault(9);
     }
     Command::Fault(8)
 }
@@ -58,7 +78,10 @@ pub fn next_move(page: &[u8], at: usize) -> MoveStep
     ensures onward { λ r. ⌜ StepsOn at (length (now (page .entry))) r ⌝ }
 {
     match command_at(page, at) {
-        Command::MoveTo(step) => MoveStep::Next { step, next: at + 5 },
+        Command::MoveTo(step) => MoveStep::Next {
+            step,
+            next: at + length_of(MOVE),
+        },
         Command::End => MoveStep::NoMore,
         Command::Station(_) => MoveStep::NoMore,
         Command::Fault(_) => MoveStep::NoMore,

@@ -10,7 +10,10 @@ use super::Command;
 use super::Move;
 use super::Verdict;
 use super::bytes::zero_from;
+use super::commands::MOVE;
+use super::commands::STATION;
 use super::commands::command_at;
+use super::commands::length_of;
 
 // For `00`: 10 if a station is still missing, then 14.
 fn judge_end(page: &[u8], at: usize, size: usize, due: usize) -> Command
@@ -110,7 +113,7 @@ pub fn read_page(
             match judged_at(page, at, size, due, after, least) {
                 Command::MoveTo(m) => {
                     least = m.target as usize + 1;
-                    at += 5;
+                    at += length_of(MOVE);
                 }
                 Command::Station(v) => break v as usize,
                 Command::End => return Verdict::Good,
@@ -123,7 +126,7 @@ pub fn read_page(
         due = next[station] as usize;
         after = station + 1;
         least = 0;
-        at += 3;
+        at += length_of(STATION);
         note(starts, station, at);
     };
     Verdict::Bad { number, offset }

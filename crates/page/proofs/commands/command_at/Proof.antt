@@ -77,14 +77,27 @@ returns-5 c =
     sym (command-cut (now (a .page)) (a .at) 1 (omega arith) (inside .if1 .left) (coded .if4 .taken)
     (leb-false _ _ (sym (c .before .fits3 .ensures) ∙ c .if5 .left)))
 
+fits-requires-3 : tie.Need-fits-requires-3
+fits-requires-3 c κs = search needs
+
 returns-6 : tie.Need-returns-6
 returns-6 c =
-    let inside = c .before .before .before .before in
+    let coded = c .before .before in
+    let inside = coded .before .before .before .before in
     let a = inside .before .before .args in
-    sym (command-end (now (a .page)) (a .at) (inside .if1 .left) (c .if6 .taken))
+    sym (command-end (now (a .page)) (a .at) (inside .if1 .left) (coded .if6 .taken)
+    (leb-true _ _ (sym (c .before .fits4 .ensures) ∙ c .if7 .taken)))
 
 returns-7 : tie.Need-returns-7
 returns-7 c =
+    let coded = c .before .before in
+    let inside = coded .before .before .before .before in
+    let a = inside .before .before .args in
+    sym (command-cut (now (a .page)) (a .at) 0 (omega arith) (inside .if1 .left) (coded .if6 .taken)
+    (leb-false _ _ (sym (c .before .fits4 .ensures) ∙ c .if7 .left)))
+
+returns-8 : tie.Need-returns-8
+returns-8 c =
     let not-move = c .before .before in
     let inside = not-move .before .before in
     let a = inside .before .before .args in
@@ -109,5 +122,7 @@ command-at-spec =
     word-at-requires-3
     returns-4
     returns-5
+    fits-requires-3
     returns-6
-    returns-7)
+    returns-7
+    returns-8)

@@ -1,21 +1,25 @@
--- No length is above 5, and an offset of a page is far below the greatest number.
+-- No command is longer than a page, and an offset of a page is far below the greatest number.
+use mathlib.Core.Path.{ap}
+use Prim.Native.Nat.{_+_}
 use native.Mathlib.Omega.{arith}
+use denote.Ref.{now}
+use lib.Dec.{leb}
+use lib.ListN.{length}
 use Rattle.page.proofs.Lengths.{length-most}
 use borrow.Author.Needs.{needs}
 use Rattle.page.proofs.commands.fits.Statement.{statement}
 use Rattle.page.proofs.commands.fits.Tie as tie
 
-mul-result : tie.Need-mul-result
-mul-result c = search needs
-
-array-read-result : tie.Need-array-read-result
-array-read-result c = search needs
+length-of-requires : tie.Need-length-of-requires
+length-of-requires c κs = search needs
 
 add-result : tie.Need-add-result
-add-result c = omega (arith, length-most (c .args .code))
+add-result c = omega (arith, c .length-of .ensures, length-most (c .before .before .args .code))
 
 returns : tie.Need-returns
-returns c = search needs
+returns c =
+    let a = c .before .before .args in
+    ap (λ n. leb (a .at + n) (length (now (a .page)))) (c .length-of .ensures)
 
 pub fits-spec : {M : Type 1} → statement M
-fits-spec = tie.close (tie.spec mul-result array-read-result add-result returns)
+fits-spec = tie.close (tie.spec length-of-requires add-result returns)

@@ -1,20 +1,20 @@
 -- Both loops keep `Left`: what is left to read from the offset `at` on decides the verdict on the page. Each arm of
 -- the match is one step of the definition (proofs/Left.antt); at a station the thread tells which one is due next.
 -- Beside it they keep `Noting`: what is left to note (proofs/Starts.antt).
-use mathlib.Core.Path.{_≡_, refl, sym, _∙_}
+use mathlib.Core.Path.{_≡_, refl, ap, sym, _∙_, subst}
 use mathlib.Core.List.{List}
 use native.Mathlib.Omega.{arith}
 use Prim.Native.Nat.{ℕ, _+_, _-_, _≤_, _<_}
 use denote.Ref.{now}
-use lib.ListN.{length, getD}
+use lib.ListN.{length, getD, set}
 use borrow.Author.Needs.{needs}
 use Rattle.page.specs.declared.Command.{Command}
+use Rattle.page.specs.declared.Command.the-variants.{Station, MoveTo}
 use Rattle.page.specs.Reading.{judgedAt}
 use Rattle.page.specs.Walk.{itemsAt, noted}
 use Rattle.page.proofs.Judging.{never, judged-end, judged-station, judged-move}
-use Rattle.page.proofs.Left.{Left, left-start, left-move, left-threaded, left-end, left-fault}
-use Rattle.page.proofs.Left.{move-room, station-room, station-known}
-use Rattle.page.proofs.Items.{note-move}
+use Rattle.page.proofs.Left.{Left, left-start, left-move, station-known, left-threaded, left-end, left-fault}
+use Rattle.page.proofs.Items.{note-move, note-station}
 use Rattle.page.proofs.Starts.{Noting, noting-start, noting-later, noting-station, noting-end}
 use Rattle.page.proofs.reader.read_page.Statement.{statement}
 use Rattle.page.proofs.reader.read_page.Tie as tie
@@ -78,37 +78,59 @@ module _ (j : Judged) where
       noting-later directory p page (now (entry .args .starts)) starts _ (j .before .before .page .inv .1) at
       (j .before .loop .inv .2)
 
--- The arm of a move: the move is within the page, and what follows it is left.
-move-read : (c : tie.After-m Inv-loop μ-loop Inv-page μ-page)
-    → let j = c .before .before in
-    (at j + 5 ≤ length (page j))
-    × Left (directory j) (p j) (page j) (at j + 5) (due j) (after j) (c .m .given .0 .0 .target + 1)
-    × (noted (itemsAt (page j) (at j + 5)) (starts j) ≡ noted (itemsAt (page j) (at j)) (starts j))
+-- The arm of a move, where its length is known: the offset behind it is above, and what follows is left to read and to
+-- note.
+move-read : (c : tie.After-length-of Inv-loop μ-loop Inv-page μ-page)
+    → let arm = c .before .before .before in
+    let j = arm .before .before in
+    let next = at j + c .length-of .result in
+    (at j < next) × Left (directory j) (p j) (page j) next (due j) (after j) (arm .m .given .0 .0 .target + 1)
+    × (noted (itemsAt (page j) next) (starts j) ≡ noted (itemsAt (page j) (at j)) (starts j))
 move-read c =
-    let j = c .before .before in
-    let m = c .m .given .0 .0 in
-    let found = found-is j _ (c .m .given .1) in (
-      move-room (directory j) (p j) (page j) (at j) (due j) (after j) (least j) (left j) m found,
-      left-move (directory j) (p j) (page j) (at j) (due j) (after j) (least j) (left j) m found,
-      note-move (page j) (at j) (starts j) m
-          (judged-move (page j) (at j) (length (directory j)) (due j) (after j) (least j) m found .0),
+    let arm = c .before .before .before in
+    let j = arm .before .before in
+    let m = arm .m .given .0 .0 in
+    let found = found-is j (MoveTo m) (arm .m .given .1) in
+    let width = c .length-of .ensures in
+    let behind = left-move (directory j) (p j) (page j) (at j) (due j) (after j) (least j) (left j) m found in
+    let stands = judged-move (page j) (at j) (length (directory j)) (due j) (after j) (least j) m found .0 in (
+      omega (arith, width),
+      subst (λ n. Left (directory j) (p j) (page j) (at j + n) (due j) (after j) (m .target + 1)) (sym width) behind,
+      ap (λ n. noted (itemsAt (page j) (at j + n)) (starts j)) width ∙ note-move (page j) (at j) (starts j) m stands,
     )
 
--- The arm of a station: it is below N and within the page, and what follows it is left.
-station-read : (c : tie.After-v Inv-loop μ-loop Inv-page μ-page)
+-- The arm of a station: it is below N and on the page.
+station-here : (c : tie.After-v Inv-loop μ-loop Inv-page μ-page)
     → let j = c .before .before in
     let v = c .v .given .0 .0 in
-    ((v < length (directory j)) × (getD (directory j) v 0 ≡ p j)) × (at j + 3 ≤ length (page j))
-    × Left (directory j) (p j) (page j) (at j + 3) (getD (now (entry j .args .next)) v 0) (v + 1) 0
-station-read c =
+    (v < length (directory j)) × (getD (directory j) v 0 ≡ p j)
+station-here c =
     let j = c .before .before in
-    let v = c .v .given .0 .0 in
+    station-known (directory j) (p j) (page j) (at j) (due j) (after j) (least j) (left j) (c .v .given .0 .0)
+    (found-is j _ (c .v .given .1))
+
+-- The same arm, where the station's length is known: as with a move.
+station-read : (c : tie.After-length-of2 Inv-loop μ-loop Inv-page μ-page)
+    → let arm = c .before .before .before in
+    let j = arm .before .before in
+    let v = arm .v .given .0 .0 in
+    let next = at j + c .length-of2 .result in
+    (at j < next) × Left (directory j) (p j) (page j) next (getD (now (entry j .args .next)) v 0) (v + 1) 0
+    × (noted (itemsAt (page j) next) (set (starts j) v next) ≡ noted (itemsAt (page j) (at j)) (starts j))
+station-read c =
+    let arm = c .before .before .before in
+    let j = arm .before .before in
+    let v = arm .v .given .0 .0 in
     let a = entry j .args in
-    let found = found-is j _ (c .v .given .1) in
-    let step = left-threaded (directory j) (p j) (page j) (at j) (due j) (after j) (least j) (left j) in (
-      station-known (directory j) (p j) (page j) (at j) (due j) (after j) (least j) (left j) v found,
-      station-room (directory j) (p j) (page j) (at j) (due j) (after j) (least j) (left j) v found,
-      step (now (a .first)) (now (a .next)) v (entry j .pre) found,
+    let found = found-is j (Station v) (arm .v .given .1) in
+    let width = c .length-of2 .ensures in
+    let step = left-threaded (directory j) (p j) (page j) (at j) (due j) (after j) (least j) (left j) in
+    let behind = step (now (a .first)) (now (a .next)) v (entry j .pre) found in
+    let stands = judged-station (page j) (at j) (length (directory j)) (due j) (after j) (least j) v found .0 in (
+      omega (arith, width),
+      subst (λ n. Left (directory j) (p j) (page j) (at j + n) (getD (now (a .next)) v 0) (v + 1) 0) (sym width) behind,
+      ap (λ n. noted (itemsAt (page j) (at j + n)) (set (starts j) v (at j + n))) width ∙
+          note-station (page j) (at j) (starts j) v stands,
     )
 
 mul-due : tie.Need-mul-due Inv-loop μ-loop Inv-page μ-page
@@ -146,17 +168,20 @@ cast-least c = search needs
 add-least : tie.Need-add-least Inv-loop μ-loop Inv-page μ-page
 add-least c = search needs
 
+length-of-requires : tie.Need-length-of-requires Inv-loop μ-loop Inv-page μ-page
+length-of-requires c κs = search needs
+
 add-at : tie.Need-add-at Inv-loop μ-loop Inv-page μ-page
-add-at c = omega (arith, move-read (c .before .before) .0)
+add-at c = omega (arith, move-read c .1 .within)
 
 loop-less : tie.Need-loop-less Inv-loop μ-loop Inv-page μ-page
-loop-less c = omega (arith, move-read (c .before .before) .0)
+loop-less c = let read = move-read c in omega (arith, read .0, read .1 .within)
 
 loop-again : tie.Need-loop-again Inv-loop μ-loop Inv-page μ-page
 loop-again c =
-    let arm = c .before .before in
-    let read = move-read arm in
-    (read .1, omega arith, read .2 ∙ arm .before .before .before .loop .inv .2)
+    let read = move-read c in
+    let before = c .before .before .before .before .before .before .loop .inv in
+    (read .1, omega (arith, read .0, before .1), read .2 ∙ before .2)
 
 enum-known-v : tie.Need-enum-known-v Inv-loop μ-loop Inv-page μ-page
 enum-known-v c = search needs
@@ -192,7 +217,7 @@ mul-due-2 c = search needs
 shared-slice-read-due-2 : tie.Need-shared-slice-read-due-2 Inv-loop μ-loop Inv-page μ-page
 shared-slice-read-due-2 c =
     let j = c .before .before .before .before in
-    omega (arith, station-read (c .before .before) .0 .0, entry j .pre .stations)
+    omega (arith, station-here (c .before .before) .0, entry j .pre .stations)
 
 cast-due-2 : tie.Need-cast-due-2 Inv-loop μ-loop Inv-page μ-page
 cast-due-2 c = omega (arith, c .shared-slice-known6 .given (c .before .before .v .given .0 .0))
@@ -200,26 +225,26 @@ cast-due-2 c = omega (arith, c .shared-slice-known6 .given (c .before .before .v
 add-after : tie.Need-add-after Inv-loop μ-loop Inv-page μ-page
 add-after c = search needs
 
+length-of-requires-2 : tie.Need-length-of-requires-2 Inv-loop μ-loop Inv-page μ-page
+length-of-requires-2 c κs = search needs
+
 add-at-2 : tie.Need-add-at-2 Inv-loop μ-loop Inv-page μ-page
-add-at-2 c = omega (arith, station-read (c .before .before) .1)
+add-at-2 c = omega (arith, station-read c .1 .within)
 
 note-requires : tie.Need-note-requires Inv-loop μ-loop Inv-page μ-page
 note-requires c κs = search needs
 
 page-less : tie.Need-page-less Inv-loop μ-loop Inv-page μ-page
-page-less c = omega (arith, station-read (c .before .before .before .before .before .before) .1)
+page-less c = let read = station-read (c .before .before .before .before) in omega (arith, read .0, read .1 .within)
 
 page-again : tie.Need-page-again Inv-loop μ-loop Inv-page μ-page
 page-again c =
-    let arm = c .before .before .before .before .before .before in
-    let j = arm .before .before in
-    let v = arm .v .given .0 .0 in
-    let found = found-is j _ (arm .v .given .1) in
-    let read = station-read arm in
-    let stands = judged-station (page j) (at j) (length (directory j)) (due j) (after j) (least j) v found .0 in (
-      read .2,
-      noting-station (directory j) (p j) (page j) (now (entry j .args .starts)) (starts j) (at j) (noting j) v _ stands
-          (read .0 .1) (c .before .before .note .ensures),
+    let read = station-read (c .before .before .before .before) in
+    let arm = c .before .before .before .before .before .before .before in
+    let j = arm .before .before in (
+      read .1,
+      noting-station (directory j) (p j) (page j) (now (entry j .args .starts)) (starts j) (at j) (noting j)
+          (arm .v .given .0 .0) _ _ (read .2) (station-here arm .1) (c .before .before .note .ensures),
     )
 
 same-length-2 : tie.Need-same-length-2 Inv-loop μ-loop Inv-page μ-page
@@ -251,6 +276,7 @@ read-page-spec =
     enum-known-m
     cast-least
     add-least
+    length-of-requires
     add-at
     loop-less
     loop-again
@@ -264,6 +290,7 @@ read-page-spec =
     shared-slice-read-due-2
     cast-due-2
     add-after
+    length-of-requires-2
     add-at-2
     note-requires
     page-less
