@@ -1,11 +1,14 @@
 -- What the program `coils` writes, as a function of the two files that it reads (01, "Route, whole check, program"). No
--- contract can say what is read or written; the program is this function spread over time, a record at a time, and its
--- lines are those of `answer_record`.
+-- contract can say what is read or written; the program is this function spread over time, a turn for each record. What
+-- it decides is promised by `image_of` and `answer_turn` (src/program.rt), of whatever stands in the files.
+use mathlib.Core.Bool.{Bool}
+use mathlib.Core.Path.{_≡_}
 use mathlib.Core.List.{List, [], _++_}
 use Prim.Native.Nat.{ℕ, zero, suc}
 use lib.ListN.{length, take, drop}
-use lib.Dec.{ltb, eqb}
+use lib.Dec.{leb, eqb}
 use Rattle.net.specs.Search.{pick}
+use Rattle.search.specs.Reply.{over}
 use Rattle.coil.specs.Line.{ascii, recordLine}
 
 -- "reads `yard.map` (a file that can't be opened is empty; past 63,492 bytes it counts as 63,493 long)". So long a
@@ -14,14 +17,36 @@ use Rattle.coil.specs.Line.{ascii, recordLine}
 abbrev pub mapOf : List ℕ → List ℕ
 mapOf file = take 63493 file
 
--- "Each record in turn gives .. one line"; "One to seven bytes left over print a last line `short`." So many records at
--- most.
+-- "8-byte records on standard input": a record is there if the input has so many bytes.
+abbrev pub hasRecord : List ℕ → Bool
+hasRecord input = leb 8 (length input)
+
+-- "One to seven bytes left over print a last line `short`."
+abbrev pub leftOver : List ℕ → List ℕ
+leftOver input = pick (eqb (length input) 0) [] (ascii "short\n")
+
+-- What a turn prints: the line of the input's first record, or what its bytes left over print.
+unfoldable pub turnOf : List ℕ → List ℕ → List ℕ
+turnOf image input = pick (hasRecord input) (recordLine image (take 8 input)) (leftOver input)
+
+-- "Each record in turn gives .. one line". So many turns at most.
 unfoldable pub linesFrom : ℕ → List ℕ → List ℕ → List ℕ
 linesFrom zero image input = []
 linesFrom (suc most) image input =
     let following = linesFrom most image (drop 8 input) in
-    let leftOver = pick (eqb (length input) 0) [] (ascii "short\n") in
-    pick (ltb (length input) 8) leftOver (recordLine image (take 8 input) ++ following)
+    turnOf image input ++ pick (hasRecord input) following []
 
 abbrev pub printed : List ℕ → List ℕ → List ℕ
 printed file input = linesFrom (suc (length input)) (mapOf file) input
+
+-- What reading leaves: so many bytes at the buffer's front, which are those of the file or input that is read, all of
+-- them or as many as the buffer has room for. For any bytes there is such a source (proofs/Turns.antt).
+abbrev pub ReadFrom : List ℕ → List ℕ → ℕ → Type 0
+ReadFrom source buffer size = take size buffer ≡ take (length buffer) source
+
+-- A turn's output at the front of the line's buffer, and the bytes behind it kept; how many bytes are printed; and
+-- whether another turn follows.
+pub record Turned (image input before after : List ℕ) (printed : ℕ) (more : Bool) : Type 0 where
+  pub line : after ≡ over (turnOf image input) before
+  pub size : printed ≡ length (turnOf image input)
+  pub follows : more ≡ hasRecord input

@@ -12,6 +12,7 @@ use records::record_of;
 use search::Answer;
 
 mod lines;
+pub mod program;
 mod records;
 mod text;
 

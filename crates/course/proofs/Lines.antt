@@ -14,7 +14,7 @@ use Rattle.page.specs.Check.{readingOf}
 use Rattle.steps.specs.Map.{mapPage}
 use Rattle.search.specs.Reply.{onMap, searched}
 use Rattle.coil.specs.Line.{ascii, digits, sourceWords, acceptedLine, refusalLine, recordLine}
-use Rattle.coil.specs.Program.{linesFrom, printed}
+use Rattle.coil.specs.Program.{turnOf, linesFrom, printed}
 use Rattle.course.specs.Cases.{m7}
 
 -- "records `07 00 00 00 B8 1F 00 00` and `08 00 00 00 B8 1F 07 00`"
@@ -24,14 +24,14 @@ records =
     0x08 ∷ 0 ∷ 0 ∷ 0 ∷ 0xB8 ∷ 0x1F ∷ 0x07 ∷ 0 ∷ []
 
 pub example : printed m7 records ≡ ascii "coil 7 length 8120 from 0 pages 3 reached 7\ncoil 8 refused 6\n"
-unfolding linesFrom ascii digits sourceWords acceptedLine refusalLine recordLine count least iter reached start choose
-    chooseOn readFor relax relaxAll visit workTurn workThrough dfVisit stepBy searchBy dfSearch allZero directoryOf
-    pageBytes firstNotBelow headingCheck commandAt firstOn nextOn judgeEnd judgeStation judgeMove judge judgedAt
-    readFrom readPage readingOf movesOf mapPage onMap searched
+unfolding turnOf linesFrom ascii digits sourceWords acceptedLine refusalLine recordLine count least iter reached start
+    choose chooseOn readFor relax relaxAll visit workTurn workThrough dfVisit stepBy searchBy dfSearch allZero
+    directoryOf pageBytes firstNotBelow headingCheck commandAt firstOn nextOn judgeEnd judgeStation judgeMove judge
+    judgedAt readFrom readPage readingOf movesOf mapPage onMap searched
 example = refl
 
 -- One byte left over behind the first record.
 pub example-short : printed m7 (0x07 ∷ 0 ∷ 0 ∷ 0 ∷ 0xB8 ∷ 0x1F ∷ 0x07 ∷ 0 ∷ 0x08 ∷ [])
     ≡ ascii "coil 7 refused 6\nshort\n"
-unfolding linesFrom ascii digits refusalLine recordLine directoryOf firstNotBelow headingCheck searched
+unfolding turnOf linesFrom ascii digits refusalLine recordLine directoryOf firstNotBelow headingCheck searched
 example-short = refl
