@@ -1,5 +1,6 @@
-"""Writes the examples of the program coils: document 01's (crates/coils: data/yard.map, stdin, stdout) and a plate
-yard's (examples/plate: yard.map, records, expected).
+"""Writes the examples of the program coils: document 01's (crates/coils: data/yard.map, stdin, stdout), a map one byte
+too long with a record cut short (crates/coils_test, likewise) and a plate yard's (examples/plate: yard.map, records,
+expected).
 
     python3 tests/make_coils_examples.py            write the files
     python3 tests/make_coils_examples.py --check    only compare them with what would be written; exit 1 if they differ
@@ -8,7 +9,7 @@ The expected lines come from coils.py, and document 01's are stated here by hand
 """
 import random
 
-from coils import line, printed
+from coils import LONGEST, line, printed
 from make_search_cases import M7, damaged, page_begins, spelled
 from maps import u16, u32
 from searches import df
@@ -30,6 +31,25 @@ def document_example():
     expected = printed(M7, data)
     assert expected == b'coil 7 length 8120 from 0 pages 3 reached 7\ncoil 8 refused 6\n', expected
     return M7, data, expected
+
+
+def largest():
+    """A map of 2,048 stations on 240 pages, 63,492 bytes: a ring that passes all pages again and again."""
+    n, pages = 2048, 240
+    moves = {s: [((s + 1) % n, 65535)] for s in range(n)}
+    return spelled([s % pages for s in range(n)], moves, pages)
+
+
+def too_long_example():
+    """The largest map and a byte more, which a reader of 63,492 bytes would take for good; a record and seven bytes."""
+    full = largest()
+    data = record(7, 8120, 0) + record(8, 8120, 7)[:7]
+    assert len(full) == LONGEST
+    assert printed(full, data) == b'coil 7 length 8120 from 0 pages 2048 reached 2048\nshort\n'
+    file = full + b'\0'
+    expected = printed(file, data)
+    assert expected == b'coil 7 refused 4\nshort\n', expected
+    return file, data, expected
 
 
 def lane_moves(rng):
@@ -74,11 +94,16 @@ def plate_example():
     return yard, data, printed(yard, data)
 
 
+def program_paths(name):
+    folder = ROOT / 'crates' / name
+    return [folder / 'data' / 'yard.map', folder / 'stdin', folder / 'stdout']
+
+
 def files():
-    course, plate = ROOT / 'crates' / 'coils', ROOT / 'examples' / 'plate'
-    paths = [course / 'data' / 'yard.map', course / 'stdin', course / 'stdout',
-             plate / 'yard.map', plate / 'records', plate / 'expected']
-    return list(zip(paths, document_example() + plate_example()))
+    plate = ROOT / 'examples' / 'plate'
+    paths = program_paths('coils') + program_paths('coils_test') + \
+        [plate / 'yard.map', plate / 'records', plate / 'expected']
+    return list(zip(paths, document_example() + too_long_example() + plate_example()))
 
 
 def main():

@@ -1,8 +1,8 @@
 -- `answer_records` ends: the measure is the number of turns left. Nothing has to hold from turn to turn, so the
 -- invariant is the fact that says nothing.
 use borrow.Author.Needs.{needs}
-use Rattle.coils.proofs.answer_records.Statement.{statement}
-use Rattle.coils.proofs.answer_records.Tie as tie
+use Rattle.coils_io.proofs.answer_records.Statement.{statement}
+use Rattle.coils_io.proofs.answer_records.Tie as tie
 
 abbrev Inv-loop : tie.InvT-loop
 Inv-loop image turns₀ turns = Unit {0}
@@ -13,8 +13,11 @@ abbrev μ-loop : tie.MeasureT-loop
 loop-holds : tie.Need-loop-holds Inv-loop μ-loop
 loop-holds c = tt
 
-next-record-requires : tie.Need-next-record-requires Inv-loop μ-loop
-next-record-requires c κs = search needs
+answer-next-requires : tie.Need-answer-next-requires Inv-loop μ-loop
+answer-next-requires c κs = search needs
+
+returns : tie.Need-returns Inv-loop μ-loop
+returns c = search needs
 
 sub-turns : tie.Need-sub-turns Inv-loop μ-loop
 sub-turns c = search needs
@@ -25,11 +28,8 @@ loop-less c = search needs
 loop-again : tie.Need-loop-again Inv-loop μ-loop
 loop-again c = tt
 
-returns : tie.Need-returns Inv-loop μ-loop
-returns c = tt
-
 returns-2 : tie.Need-returns-2 Inv-loop μ-loop
-returns-2 c = tt
+returns-2 c = search needs
 
 pub answer-records-spec : {M : Type 1} → statement M
 answer-records-spec =
@@ -38,9 +38,9 @@ answer-records-spec =
     Inv-loop
     μ-loop
     loop-holds
-    next-record-requires
+    answer-next-requires
+    returns
     sub-turns
     loop-less
     loop-again
-    returns
     returns-2)
