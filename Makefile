@@ -1,4 +1,4 @@
-.PHONY: run test cases layers coils-test c-example stack fuzz bench libyard help
+.PHONY: run test cases layers coils coils-test c-example stack fuzz bench libyard help
 
 # Proves and builds the program coils and runs it on document 01's example and on a plate yard.
 run:
@@ -29,8 +29,16 @@ layers:
 	@grep -nE '$(LOOKS)' $(ABOVE_PAGE:%=crates/%/src/*.rt); test $$? = 1
 	@echo 'layers: no page bytes looked at in $(ABOVE_PAGE)'
 
-# Runs the built program from outside: missing and oversized maps, records cut short, a slow writer (needs Python 3).
-coils-test:
+# The kit's own C code, beside its guides.
+KIT_C = "$$(dirname "$$(rt doc)")/../lib/libos_c.a"
+
+# Builds target/coils, the program with an exit status (needs a C compiler).
+coils:
+	rt staticlib coils_io
+	$(CC) -std=c99 -Wall -Wextra -Werror -o target/coils host/coils.c target/staticlib/libcoils_io.a $(KIT_C)
+
+# Runs both builds of coils from outside: maps and records of every kind, slow and closed streams (needs Python 3, C).
+coils-test: coils
 	rt check coils
 	python3 tests/coils_outside.py
 

@@ -1,37 +1,63 @@
-"""Runs the built program coils from outside on maps and inputs of every kind, and compares all that it writes.
+"""Runs the two builds of the program coils from outside on maps, inputs and streams of every kind, and compares all
+that they write, on standard error too, and their statuses.
 
-    python3 tests/coils_outside.py [PROGRAM]    the program, target/bin/coils if not given; exit 1 on a difference
+    python3 tests/coils_outside.py    exit 1 on a difference
 
-The expected output comes from coils.py; where document 01 fixes a line, the case states it by hand too.
+target/bin/coils is built by the kit alone and has no status of its own; target/coils has one. The expected output comes
+from coils.py; where document 01 fixes a line, the case states it by hand too.
 """
+import contextlib
 import os
+import pty
 import random
 import select
 import subprocess
 import sys
 import tempfile
 import time
+import tty
 from pathlib import Path
 
 from coils import LONGEST, printed
-from make_coils_examples import plate_yard, record
-from make_search_cases import M7, damaged, page_begins, random_change, random_map, spelled
+from make_coils_examples import largest, plate_yard, record
+from make_search_cases import M7, damaged, page_begins, random_change, random_map
 
-PROGRAM = Path(__file__).resolve().parent.parent / 'target' / 'bin' / 'coils'
+TARGET = Path(__file__).resolve().parent.parent / 'target'
+BY_THE_KIT, WITH_STATUS = TARGET / 'bin' / 'coils', TARGET / 'coils'
 FROM_0, FROM_7 = record(7, 8120, 0), record(8, 8120, 7)
 LINE_0, LINE_7 = b'coil 7 length 8120 from 0 pages 3 reached 7\n', b'coil 8 refused 6\n'
 
 
-def started(folder):
-    return subprocess.Popen([str(PROGRAM)], cwd=folder, stdin=subprocess.PIPE, stdout=subprocess.PIPE,
-                            stderr=subprocess.PIPE)
+@contextlib.contextmanager
+def yard(file):
+    """A folder with the map; None: with none."""
+    with tempfile.TemporaryDirectory() as folder:
+        if file is not None:
+            (Path(folder) / 'yard.map').write_bytes(file)
+        yield folder
 
 
-def largest():
-    """A map of 2,048 stations on 240 pages, 63,492 bytes: a ring that passes all pages again and again."""
-    n, pages = 2048, 240
-    moves = {s: [((s + 1) % n, 65535)] for s in range(n)}
-    return spelled([s % pages for s in range(n)], moves, pages)
+def started(build, folder, **streams):
+    piped = dict.fromkeys(('stdin', 'stdout', 'stderr'), subprocess.PIPE)
+    return subprocess.Popen([str(build)], cwd=folder, **{**piped, **streams})
+
+
+def failed(build):
+    """The status of a run in which a read or a write failed."""
+    return 1 if build == WITH_STATUS else 0
+
+
+def compare(label, found, wanted):
+    if found == wanted:
+        return True
+    print(f'{label}: {found!r}, not {wanted!r}')
+    return False
+
+
+def ends(label, program, data, out, err=b'', status=0):
+    """What the program writes from here on, once it has got the data and the end of its input, and its status."""
+    found = program.communicate(data, timeout=60)
+    return compare(f'{label}, {program.args[0]}', (found[0] or b'', found[1], program.returncode), (out, err, status))
 
 
 def row(label, file, data, wanted=None):
@@ -78,21 +104,12 @@ def damaged_map(rng, number):
     return row(f'random map {number}', damaged(data, *changes.items()), b''.join(records))
 
 
-def run(label, file, data, wanted):
-    with tempfile.TemporaryDirectory() as folder:
-        if file is not None:
-            (Path(folder) / 'yard.map').write_bytes(file)
-        program = started(folder)
-        out, err = program.communicate(data, timeout=60)
-    return compare(label, out, wanted) and compare(label + ', errors', err, b'') and \
-        compare(label + ', status', program.returncode, 0)
-
-
-def compare(label, found, wanted):
-    if found == wanted:
-        return True
-    print(f'{label}: {found!r}, not {wanted!r}')
-    return False
+def run(build, label, file, data, wanted):
+    with yard(file) as folder:
+        program = started(build, folder)
+        if file is None:
+            return ends(label, program, data, wanted, b'yard.map: No such file or directory\n', failed(build))
+        return ends(label, program, data, wanted)
 
 
 def seen(program, seconds):
@@ -101,13 +118,12 @@ def seen(program, seconds):
     return os.read(program.stdout.fileno(), 4096) if ready else b''
 
 
-def run_slowly():
+def run_slowly(build):
     """Records byte by byte: each line is there before the next record begins, whole in one piece, and not before its
     record's last byte. Then five bytes, and the end."""
     good = True
-    with tempfile.TemporaryDirectory() as folder:
-        (Path(folder) / 'yard.map').write_bytes(M7)
-        program = started(folder)
+    with yard(M7) as folder:
+        program = started(build, folder)
         for one, wanted in ((FROM_0, LINE_0), (FROM_7, LINE_7), (FROM_0, LINE_0)):
             for k, byte in enumerate(one):
                 time.sleep(0.02)
@@ -116,9 +132,7 @@ def run_slowly():
                 if k == 6:
                     good &= compare('slowly, before the last byte', seen(program, 0.2), b'')
             good &= compare('slowly, after the last byte', seen(program, 20), wanted)
-        out, err = program.communicate(FROM_0[:5], timeout=20)
-        good &= compare('slowly, at the end', out, b'short\n') and compare('slowly, errors', err, b'')
-    return good
+        return ends('slowly, at the end', program, FROM_0[:5], b'short\n') and good
 
 
 def opened_by_reader(path, seconds):
@@ -132,35 +146,108 @@ def opened_by_reader(path, seconds):
     return None
 
 
-def run_pipe():
+def run_pipe(build):
     """A map that arrives in pieces is read to its end."""
-    with tempfile.TemporaryDirectory() as folder:
+    with yard(None) as folder:
         path = Path(folder) / 'yard.map'
         os.mkfifo(path)
-        program = started(folder)
+        program = started(build, folder)
         pipe = opened_by_reader(path, 20)
         if pipe is not None:
             for at in range(0, len(M7), 100):
                 os.write(pipe, M7[at:at + 100])
                 time.sleep(0.02)
             os.close(pipe)
-        out, err = program.communicate(FROM_0, timeout=20)
-    return compare('a map in pieces', out + err, LINE_0)
+        return ends('a map in pieces', program, FROM_0, LINE_0)
 
 
-def run_folder():
+def run_folder(build):
     """A folder in the map's place opens and can't be read: it is empty too."""
-    with tempfile.TemporaryDirectory() as folder:
+    with yard(None) as folder:
         (Path(folder) / 'yard.map').mkdir()
-        out, err = started(folder).communicate(FROM_0, timeout=20)
-    return compare('a folder for a map', out + err, b'coil 7 refused 1\n')
+        return ends('a folder for a map', started(build, folder), FROM_0, b'coil 7 refused 1\n',
+                    b'yard.map: Is a directory\n', failed(build))
+
+
+def run_streams(build):
+    """Streams that fail from the start on: a line on standard error, and no line of a record."""
+    full, place = os.open('/dev/full', os.O_WRONLY), os.open('/', os.O_RDONLY)
+    rows = [('a full disk', {'stdout': full}, b'standard output: No space left on device\n'),
+            ('a closed output', {'preexec_fn': lambda: os.close(1)}, b'standard output: Bad file descriptor\n'),
+            ('a closed input', {'preexec_fn': lambda: os.close(0)}, b'standard input: Bad file descriptor\n'),
+            ('a folder for the input', {'stdin': place}, b'standard input: Is a directory\n')]
+    with yard(M7) as folder:
+        results = [ends(label, started(build, folder, **streams), None if 'stdin' in streams else FROM_0, b'', err,
+                        failed(build)) for label, streams, err in rows]
+    os.close(full)
+    os.close(place)
+    return results
+
+
+def run_reader_gone(build):
+    """A pipe that nobody reads: a write that fails, or for the kit's build the signal that ends it."""
+    reading, writing = os.pipe()
+    os.close(reading)
+    with yard(M7) as folder:
+        program = started(build, folder, stdout=writing)
+        os.close(writing)
+        if build == BY_THE_KIT:
+            return ends('a reader gone', program, FROM_0, b'', b'', -13)
+        return ends('a reader gone', program, FROM_0, b'', b'standard output: Broken pipe\n', 1)
+
+
+def run_broken_off(build):
+    """An input that fails after eleven bytes, as a terminal's other side does: the record is answered before, and the
+    three bytes are left over."""
+    ours, theirs = pty.openpty()
+    tty.setraw(theirs)
+    with yard(M7) as folder:
+        program = started(build, folder, stdin=ours)
+        os.close(ours)
+        os.write(theirs, FROM_0 + FROM_7[:3])
+        good = compare('broken off, the record', seen(program, 20), LINE_0)
+        os.close(theirs)
+        return ends('broken off', program, None, b'short\n', b'standard input: Input/output error\n',
+                    failed(build)) and good
+
+
+def run_input_not_ready(build):
+    """An input that doesn't block, from a slow writer."""
+    reading, writing = os.pipe()
+    os.set_blocking(reading, False)
+    with yard(M7) as folder:
+        program = started(build, folder, stdin=reading)
+        os.close(reading)
+        for part in (FROM_0[:3], FROM_0[3:], FROM_7, FROM_0[:1]):
+            time.sleep(0.1)
+            os.write(writing, part)
+        os.close(writing)
+        return ends('an input that is not ready', program, None, LINE_0 + LINE_7 + b'short\n')
+
+
+def run_output_not_ready(build):
+    """An output that doesn't block and has room for less than all lines, to a slow reader."""
+    count = 5000
+    reading, writing = os.pipe()
+    os.set_blocking(writing, False)
+    with yard(M7) as folder:
+        (Path(folder) / 'records').write_bytes(FROM_0 * count)
+        with open(Path(folder) / 'records', 'rb') as records:
+            program = started(build, folder, stdin=records, stdout=writing)
+        os.close(writing)
+        time.sleep(0.3)
+        with open(reading, 'rb') as lines:
+            good = compare('an output that is not ready', lines.read(), LINE_0 * count)
+        return ends('an output that is not ready', program, None, b'') and good
 
 
 def main():
-    global PROGRAM
-    if len(sys.argv) > 1:
-        PROGRAM = Path(sys.argv[1]).resolve()
-    results = [run(*case) for case in cases()] + [run_slowly(), run_pipe(), run_folder()]
+    alone = (run_slowly, run_pipe, run_folder, run_reader_gone, run_broken_off, run_input_not_ready,
+             run_output_not_ready)
+    made = cases()
+    results = []
+    for build in (BY_THE_KIT, WITH_STATUS):
+        results += [run(build, *case) for case in made] + [one(build) for one in alone] + run_streams(build)
     print(f'{len(results)} runs of coils, {results.count(False)} with a difference')
     sys.exit(1 if False in results else 0)
 
