@@ -70,8 +70,8 @@ fn answer_next(image: &[u8]) -> Went {
     }
 }
 
-// Answers the records in turn, and answers whether all was read and written. The turns are counted down, as the calls
-// in `streams` are.
+// Answers the records in turn, and says whether all was read and written. The turns are counted down, as the calls in
+// `streams` are.
 fn answer_records(image: &[u8]) -> bool {
     let mut turns = u64::MAX;
     while turns > 0 {
@@ -84,7 +84,7 @@ fn answer_records(image: &[u8]) -> bool {
     true
 }
 
-// Runs the program, and answers its exit status: 0 if all was read and written, and 1 otherwise.
+// Runs the program, and gives its exit status: 0 if all was read and written, and 1 otherwise.
 #[no_mangle]
 pub extern "C" fn coils_run() -> i32
     ensures status { λ r. ⌜ (r ≡ pos 0) ⊎ (r ≡ pos 1) ⌝ }

@@ -49,7 +49,7 @@ pub fn read_full(file: i32, buffer: &mut [u8]) -> Read
     }
 }
 
-// Writes all bytes, and answers whether it could.
+// Writes all bytes, and says whether it could.
 pub fn write_all(file: i32, bytes: &[u8]) -> bool {
     let mut done = 0;
     let mut calls = u64::MAX;
