@@ -132,8 +132,8 @@ uint32_t yard_check(const uint8_t *image, size_t image_len, uint32_t *answer, si
  * stations have a time. Later entries are kept.
  * Refused by 1 to 7: every table is untouched. Refused by 8 to 14: the first N entries are as if no station had a time,
  * and list holds the answer[0] pages fetched, the bad one last.
- * Where both accept, they give the same times and predecessors. The list of yard_df is that of yard_plain with some
- * entries left out or none.
+ * Where yard_df accepts, yard_plain does too, with the same times and predecessors, and the list of yard_df is that of
+ * yard_plain with some entries left out or none.
  */
 uint32_t yard_plain(const uint8_t *image, size_t image_len, uint16_t source,
                     uint32_t *times, size_t times_len, uint16_t *preds, size_t preds_len,
