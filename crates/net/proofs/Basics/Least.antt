@@ -1,6 +1,6 @@
 -- What `least` finds: a number below n that passes the test and comes before every other such, by key and then by
--- number; or nobody, and then none passes. By induction on n.
-use mathlib.Core.Path.{_≡_, refl, sym, _∙_, subst}
+-- number; or nobody, and then none passes. By induction on n. And only that: whoever is such a number is the one found.
+use mathlib.Core.Path.{_≡_, refl, sym, _∙_, ap, subst}
 use mathlib.Core.Logic.{⊎-elim}
 use mathlib.Core.Bool.{Bool, true, false, true≢false}
 use Prim.Native.Nat.{ℕ, zero, suc, _≤_, _<_}
@@ -78,3 +78,31 @@ module _ (key : ℕ → ℕ) (test : ℕ → Bool) where
   unfolding least
   least-is zero = λ k h. absurd (not-suc-le-zero h)
   least-is (suc n) = better-is-least n (test n) (least key test n) refl (least-is n)
+
+pub least-alike : (key : ℕ → ℕ) (test other : ℕ → Bool) → ((v : ℕ) → test v ≡ other v) → (n : ℕ)
+    → least key test n ≡ least key other n
+unfolding least
+least-alike key test other same zero = refl
+least-alike key test other same (suc n) = rw (same n, least-alike key test other same n)
+
+module _ (key : ℕ → ℕ) (test : ℕ → Bool) (n : ℕ) where
+  -- by what it finds
+  pub least-cases : (c : Choice) → least key test n ≡ c → LeastIs key test n c
+  least-cases c e = rw e at (least-is key test n)
+
+  pub least-found : (u : ℕ) → Lowest key test n u → least key test n ≡ Station u
+  least-found u l = by-choice (least key test n) (least-is key test n)
+    where
+      by-choice : (c : Choice) → LeastIs key test n c → c ≡ Station u
+      by-choice Nobody k = absurd (true≢false (sym (l .passes) ∙ k u (l .inside)))
+      by-choice (Station x) k =
+          let a = l .first x (k .inside) (k .passes) in
+          let b = k .first u (l .inside) (l .passes) in
+          ap Station (omega (arith, a .tie (b .low), b .tie (a .low)))
+
+  pub least-nobody : ((v : ℕ) → v < n → test v ≡ true → ⊥) → least key test n ≡ Nobody
+  least-nobody none = by-choice (least key test n) (least-is key test n)
+    where
+      by-choice : (c : Choice) → LeastIs key test n c → c ≡ Nobody
+      by-choice Nobody k = refl
+      by-choice (Station x) k = absurd (none x (k .inside) (k .passes))
