@@ -1,16 +1,18 @@
 -- Beliefs from the course, on the course maps of document 01: each is refuted by computing the DF search, and where the
 -- belief is about how it goes on, a variant that follows the belief (docs/course.md tells them with their numbers).
+-- Beside them stand the runs on M7, so that a wrong definition of the run is refused by the course's numbers first.
 use mathlib.Core.Path.{_≡_, refl}
 use mathlib.Core.List.{List, [], _∷_, Sublistᴰ, Sublistᴰ·slnil, Sublistᴰ·cons, Sublistᴰ·cons-cons}
-use mathlib.Core.Bool.{Bool, false, not, _||_}
+use mathlib.Core.Bool.{Bool, true, false, not, _||_}
 use Prim.Native.Nat.{ℕ, _+_}
 use lib.ListN.{getD, take}
 use lib.Dec.{eqb}
 use Rattle.net.specs.Net.{Move, Page, good, bad, Frame, one}
-use Rattle.net.specs.Search.{State, refused, pick, timeOf, predOf, isFresh, withTables, settle, markFresh, start, least}
-use Rattle.net.specs.Search.{choose}
+use Rattle.net.specs.Search.{State, refused, pick, timeOf, predOf, isFresh, withTables, settle, markFresh, start}
+use Rattle.net.specs.Search.{least, choose}
 use Rattle.net.specs.Search.{chooseOn, onChoice, iter, readFor, relax, relaxAll, visit, workTurn, workThrough}
 use Rattle.net.specs.Search.{dfVisit, noneOrLess, stepBy, searchBy, dfSearch}
+use Rattle.net.specs.Run.{firstWaiting, firstOn, visitOf, turnOf, pageWork, reference, stepRun, runOf}
 use Rattle.net.proofs.After.{afterDf}
 
 abbrev to : ℕ → ℕ → Move
@@ -109,6 +111,16 @@ pub bad-page-ends-the-search :
 unfolding iter least relax relaxAll visit choose chooseOn workTurn workThrough readFor dfVisit stepBy searchBy
     start dfSearch
 bad-page-ends-the-search = (refl, refl)
+
+-- The runs on M7 (specs/Run): C1 to C3, and C7.
+pub m7-runs :
+    ((runOf true m7 m7-page 0) .times ≡ 0 ∷ 4 ∷ 3 ∷ 6 ∷ 2 ∷ 8 ∷ 9 ∷ [])
+    × ((runOf true m7 m7-page 0) .preds ≡ 65534 ∷ 0 ∷ 4 ∷ 2 ∷ 0 ∷ 4 ∷ 5 ∷ [])
+    × ((runOf true m7 m7-page 0) .pages ≡ 0 ∷ 1 ∷ 0 ∷ [])
+    × ((runOf false m7 m7-page 0) .pages ≡ 0 ∷ 1 ∷ 0 ∷ 0 ∷ 0 ∷ 1 ∷ 1 ∷ [])
+    × ((runOf true m7 m7-bad-page 0) .halt ≡ refused 8 1 0) × ((runOf true m7 m7-bad-page 0) .pages ≡ 0 ∷ 1 ∷ [])
+unfolding iter least relax relaxAll firstWaiting firstOn visitOf turnOf pageWork reference stepRun runOf start
+m7-runs = (refl, refl, refl, refl, refl, refl)
 
 -- A store of a number of frames, least recently used out: the pages held, the latest first, and its reads of a list.
 abbrev holds : ℕ → List ℕ → Bool

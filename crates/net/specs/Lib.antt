@@ -1,3 +1,4 @@
 pub mod Net
 pub mod Search
 pub mod Demands
+pub mod Run
