@@ -3,9 +3,9 @@
 -- no later than u keeps its entries; and whoever is still fresh has kept its time.
 use mathlib.Core.Path.{_≡_, refl, sym, _∙_}
 use mathlib.Core.Logic.{_≢_, ⊎-elim, dite}
-use mathlib.Core.List.{List, [], _∷_, List·Memᴰ, List·Memᴰ·head, List·Memᴰ·tail, List·Memᴰ·cases-cons}
+use mathlib.Core.List.{List, [], _∷_, _++_, List·Memᴰ, List·Memᴰ·head, List·Memᴰ·tail, List·Memᴰ·cases-cons}
 use mathlib.Core.List.{List·Memᴰ·not-nil}
-use mathlib.Core.Bool.{true, false, true≢false}
+use mathlib.Core.Bool.{Bool, true, false, true≢false}
 use Prim.Native.Nat.{ℕ, _+_, _%_, _≤_, _<_}
 use native.Mathlib.Decide.{ℕ-discrete}
 use native.Mathlib.Omega.{arith}
@@ -229,6 +229,13 @@ module _ (F : Frame) where
   relax-spread u m s fits z =
       spread-one u (m .target) (timeOf F s u + m .weight) s (relax F ltb u m s) (omega arith)
       (relax-relaxed F u m s z (fits .1))
+
+  -- the move that is relaxed last
+  pub relaxAll-last : (less : ℕ → ℕ → Bool) (u : ℕ) (moves : List Move) (m : Move) (s : State)
+      → relaxAll F less u (moves ++ (m ∷ [])) s ≡ relax F less u m (relaxAll F less u moves s)
+  unfolding relaxAll
+  relaxAll-last less u [] m s = refl
+  relaxAll-last less u (n ∷ moves) m s = relaxAll-last less u moves m (relax F less u n s)
 
   -- What relaxing each move of the list keeps, relaxing the list keeps; the state so far is a spread of the first
   -- one.
