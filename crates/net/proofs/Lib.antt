@@ -1,7 +1,8 @@
--- `Laws` is the front page: every law that another crate cites, with the hypothesis `Sound`. The folders are its proof,
--- from below: `Basics` (no net), `Relaxing` (moves), `Steps` (one step of a search), `Searches` (whole searches),
--- `PageLists` (how often a page is listed). `Instances` stands beside it. `Course` needs the definitions alone, and comes
--- first, so that a wrong definition is refused by the course's numbers before any law.
+-- `Laws` is the front page: every law about the searches that another crate cites, with the hypothesis `Sound`. `Runs`
+-- is that of the engine's run. The folders are their proof, from below: `Basics` (no net), `Relaxing` (moves), `Steps`
+-- (one step of a search), `Searches` (whole searches), `PageLists` (how often a page is listed). `Instances` stands
+-- beside them. `Course` needs the definitions alone, and comes first, so that a wrong definition is refused by the
+-- course's numbers before any law.
 pub mod Sound
 pub mod After
 pub mod Course
@@ -12,4 +13,5 @@ pub mod Searches
 pub mod PageLists
 pub mod Local
 pub mod Laws
+pub mod Runs
 pub mod Instances

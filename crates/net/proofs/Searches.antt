@@ -1,7 +1,9 @@
--- Whole searches: what holds after any number of steps, that they end, and what their tables then say.
+-- Whole searches: what holds after any number of steps, that they end, what their tables then say; and the run of
+-- references that each of them is.
 pub mod Walks
 pub mod Start
 pub mod Run
 pub mod Answer
 pub mod Together
 pub mod OneComparison
+pub mod References

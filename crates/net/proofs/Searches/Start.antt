@@ -69,7 +69,7 @@ module _ {F : Frame} {page : ℕ → Page} {source : ℕ} (ok : Sound F page sou
         (λ ne. omega (arith, start-other-time x ne));
   }
 
-  start-rooted : Rooted ok (timeOf F (start F source)) (predOf (start F source))
+  pub start-rooted : Rooted ok (timeOf F (start F source)) (predOf (start F source))
   start-rooted = record {
     inside = timed-inside F (start F source) start-tables;
     source-time = start-time;
