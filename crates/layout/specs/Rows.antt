@@ -1,6 +1,6 @@
 -- The moves of each station as a row of numbers. `layout` has 17,152 entries: entry v is where the row of station v
--- begins, entry 2048 + v where it ends (0 until it has been laid out); from 4096 on the rows stand, in room for 51 moves
--- for each of 256 pages. Begins and ends are indexes into the same table.
+-- begins, entry 2048 + v where it ends (0 until it has been laid out); from 4096 on the rows stand, in room for 51
+-- moves for each of 256 pages. Begins and ends are indexes into the same table.
 use mathlib.Core.Path.{_≡_}
 use mathlib.Core.List.{List}
 use Prim.Native.Nat.{ℕ, _+_, _-_, _*_, _≤_}

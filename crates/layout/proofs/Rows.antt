@@ -1,0 +1,112 @@
+-- What a write to `layout` does to the rows: one write changes one entry, so a row stays that does not have it and
+-- whose begin and end are elsewhere; and a move that is written behind a row makes the row longer by one.
+use mathlib.Core.Path.{_≡_, ap, _∙_}
+use mathlib.Core.Logic.{dite}
+use mathlib.Core.List.{List, [], _∷_, _++_}
+use Prim.Native.Nat.{ℕ, suc, _+_, _-_, _*_, _≤_, _<_}
+use native.Mathlib.Decide.{decLt}
+use native.Mathlib.Omega.{arith}
+use lib.ListN.{length, getD, take, drop, set, length-set, length-drop}
+use lib.Seq.{getD-set-same, getD-set-other, take-set-le, drop-set-lt, drop-set-add, take-suc-set}
+use Rattle.layout.specs.Rows.{beginOf, endOf, rowOf, Laid}
+
+module _ (layout : List ℕ) (i x : ℕ) where
+  -- what stands between two indexes stays, if the write is outside
+  pub between-kept : (from to : ℕ) → (from ≤ i → to ≤ i)
+      → take (to - from) (drop from (set layout i x)) ≡ take (to - from) (drop from layout)
+  between-kept from to outside =
+      dite (decLt i from)
+      (λ l. rw (drop-set-lt from layout i x))
+      (λ n.
+      let l : from ≤ i = omega arith in
+      let k : to - from ≤ i - from = omega (arith, outside l) in
+      let e : i ≡ from + (i - from) = omega arith in
+      let there = drop-set-add from layout (i - from) x in
+      ap (λ (j : ℕ). take (to - from) (drop from (set layout j x))) e ∙
+      rw there (take-set-le (to - from) (drop from layout) (i - from) x k))
+
+  -- a write behind what stands between two indexes makes it longer by one
+  pub between-more : (from : ℕ) → from ≤ i → i < length layout
+      → take (i + 1 - from) (drop from (set layout i x)) ≡ take (i - from) (drop from layout) ++ (x ∷ [])
+  between-more from l h =
+      let e : i ≡ from + (i - from) = omega arith in
+      let count : i + 1 - from ≡ suc (i - from) = omega arith in
+      let there = drop-set-add from layout (i - from) x in
+      let room : i - from < length (drop from layout) = omega (arith, length-drop from layout) in
+      rw count
+      (ap (λ (j : ℕ). take (suc (i - from)) (drop from (set layout j x))) e ∙
+      rw there (take-suc-set (drop from layout) (i - from) x room))
+
+  module _ (v : ℕ) where
+    pub begin-kept : (v ≡ i → ⊥) → beginOf (set layout i x) v ≡ beginOf layout v
+    begin-kept other = getD-set-other layout i v x 0 other
+
+    pub end-kept : (2048 + v ≡ i → ⊥) → endOf (set layout i x) v ≡ endOf layout v
+    end-kept other = getD-set-other layout i (2048 + v) x 0 other
+
+    -- a write that is neither a station's begin nor its end nor in its row
+    pub row-kept : (v ≡ i → ⊥) → (2048 + v ≡ i → ⊥) → (beginOf layout v ≤ i → endOf layout v ≤ i)
+        → rowOf (set layout i x) v ≡ rowOf layout v
+    row-kept other-begin other-end outside =
+        rw (begin-kept other-begin, end-kept other-end) (between-kept (beginOf layout v) (endOf layout v) outside)
+
+    pub laid-kept : (p : ℕ) (row : List ℕ) → Laid layout p v row → (v ≡ i → ⊥) → (2048 + v ≡ i → ⊥)
+        → (beginOf layout v ≤ i → endOf layout v ≤ i) → Laid (set layout i x) p v row
+    laid-kept p row laid other-begin other-end outside = record {
+      begins = rw (begin-kept other-begin) (laid .begins);
+      ordered = rw (begin-kept other-begin, end-kept other-end) (laid .ordered);
+      ends = rw (end-kept other-end) (laid .ends);
+      entries = row-kept other-begin other-end outside ∙ laid .entries;
+    }
+
+-- The row of station v stays at a write of the kinds that the page reader makes.
+module _ (layout : List ℕ) (p v x : ℕ) (row : List ℕ) (laid : Laid layout p v row) (station : v < 2048) where
+  -- a write into another page's room
+  pub laid-other-page : (q i : ℕ) → (p ≡ q → ⊥) → 4096 + 51 * q ≤ i → i < 4096 + 51 * q + 51
+      → Laid (set layout i x) p v row
+  laid-other-page q i other low high =
+      let begins = laid .begins in
+      let ends = laid .ends in
+      laid-kept layout i x v p row laid (λ e. omega arith) (λ e. omega arith) (λ l. omega arith)
+
+  -- a write behind the row
+  pub laid-behind : (i : ℕ) → 4096 ≤ i → endOf layout v ≤ i → Laid (set layout i x) p v row
+  laid-behind i low behind =
+      laid-kept layout i x v p row laid (λ e. omega arith) (λ e. omega arith) (λ l. behind)
+
+  -- the begin or the end of another station
+  pub laid-other-begin : (w : ℕ) → w < 2048 → (v ≡ w → ⊥) → Laid (set layout w x) p v row
+  laid-other-begin w h other =
+      let begins = laid .begins in
+      laid-kept layout w x v p row laid other (λ e. omega arith) (λ l. absurd (omega arith))
+
+  pub laid-other-end : (w : ℕ) → w < 2048 → (v ≡ w → ⊥) → Laid (set layout (2048 + w) x) p v row
+  laid-other-end w h other =
+      let begins = laid .begins in
+      laid-kept layout (2048 + w) x v p row laid
+      (λ e. omega arith)
+      (λ e. other (omega arith))
+      (λ l. absurd (omega arith))
+
+-- A row that stands between two indexes of its page's room is laid out by writing where it begins and where it ends.
+module _ (p v from to : ℕ) (row : List ℕ) (station : v < 2048) (low : 4096 + 51 * p ≤ from) (ordered : from ≤ to)
+    (high : to ≤ 4096 + 51 * p + 51) where
+  pub laid-end : (layout : List ℕ) → length layout ≡ 17152 → beginOf layout v ≡ from
+      → take (to - from) (drop from layout) ≡ row → Laid (set layout (2048 + v) to) p v row
+  laid-end layout size written stands =
+      let begin : getD (set layout (2048 + v) to) v 0 ≡ from =
+      getD-set-other layout (2048 + v) v to 0 (λ e. omega arith) ∙ written in
+      let end : getD (set layout (2048 + v) to) (2048 + v) 0 ≡ to =
+      getD-set-same layout (2048 + v) to 0 (omega arith) in
+      record {
+        begins = rw begin low;
+        ordered = rw (begin, end) ordered;
+        ends = rw end high;
+        entries = rw (begin, end) (between-kept layout (2048 + v) to from to (λ l. absurd (omega arith)) ∙ stands);
+      }
+
+  pub laid-new : (layout : List ℕ) → length layout ≡ 17152 → take (to - from) (drop from layout) ≡ row
+      → Laid (set (set layout v from) (2048 + v) to) p v row
+  laid-new layout size stands =
+      laid-end (set layout v from) (length-set layout v from ∙ size) (getD-set-same layout v from 0 (omega arith))
+      (between-kept layout v from from to (λ l. absurd (omega arith)) ∙ stands)
