@@ -4,3 +4,6 @@ pub mod Compare
 pub mod Slots
 pub mod Due
 pub mod Rows
+-- How `places` is filled by counting.
+pub mod Counts
+pub mod Filling
