@@ -6,7 +6,7 @@ ghost use Rattle.layout.specs.Rows.{beginOf, endOf};
 use crate::places::STATIONS;
 
 // The entries of `layout`: the begins of the stations' rows, then their ends, then room for the moves of each page.
-const END_FROM: usize = STATIONS;
+pub const END_FROM: usize = STATIONS;
 
 pub const ROOM_FROM: usize = 4096;
 
