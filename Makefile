@@ -1,4 +1,4 @@
-.PHONY: run test cases layers coils coils-test c-example stack fuzz bench libyard help
+.PHONY: run test cases layers coils coils-test c-example stack fuzz bench bench-base libyard help
 
 # Proves and builds the program coils and runs it on document 01's example and on a plate yard.
 run:
@@ -68,9 +68,20 @@ SEED ?= 1
 fuzz: target/outside/fuzz
 	target/outside/fuzz $(COUNT) $(SEED)
 
-# Measures the C interface against Dijkstra's search in Rust (needs rustc).
+ROUNDS ?= 600
+
+# Measures the C interface against Dijkstra's search in Rust and, with BASE=, another build of libyard.a (needs rustc).
 bench: target/outside/bench
-	target/outside/bench
+	target/outside/bench $(ROUNDS)
+
+# Proves an earlier COMMIT= from nothing and builds its libyard.a, to be the BASE of bench (needs git).
+bench-base:
+	test -n '$(COMMIT)'
+	rm -rf target/base
+	git clone -q . target/base
+	git -C target/base checkout -q --detach $(COMMIT)
+	cd target/base && rt staticlib yard
+	@echo 'Now: make bench BASE=target/base/target/staticlib/libyard.a'
 
 OUTSIDE := target/outside/liboutside.rlib
 RUSTC := rustc --edition 2021 -C opt-level=3
@@ -84,8 +95,21 @@ LINKED := --extern outside=$(OUTSIDE) -L target/staticlib -l static=yard
 target/outside/fuzz: $(OUTSIDE) $(wildcard outside/fuzz/*.rs) libyard
 	$(RUSTC) $(LINKED) -o $@ outside/fuzz/main.rs
 
-target/outside/bench: $(OUTSIDE) $(wildcard bench/*.rs) libyard
-	$(RUSTC) $(LINKED) -o $@ bench/main.rs
+BENCH := $(OUTSIDE) $(wildcard bench/*.rs) libyard
+
+# The functions of BASE get other names in a copy of it, so that one program has both builds.
+ifdef BASE
+BENCH += target/outside/libbase.a
+BASE_LINKED := --cfg base -L target/outside -l static=base
+
+.PHONY: target/outside/libbase.a
+target/outside/libbase.a: $(OUTSIDE) libyard
+	nm --extern-only --defined-only --format=posix "$(BASE)" | awk 'NF > 1 { print $$1, "base_" $$1 }' >$@.names
+	objcopy --redefine-syms=$@.names "$(BASE)" $@
+endif
+
+target/outside/bench: $(BENCH)
+	$(RUSTC) $(LINKED) $(BASE_LINKED) -o $@ bench/main.rs
 
 # Lists the targets, each by the comment above it.
 help:

@@ -1,8 +1,8 @@
 //! The baselines: Dijkstra's search as one writes it in Rust without proofs. One pass over the image checks it and
 //! collects the moves; then the search runs with the standard library's heap and lazy deletion. It gives what the plain
 //! search gives: times, lowest predecessors, page list, stations reached. It comes in two grades, by how the moves are
-//! kept and what the heap compares: straightforward (a vector of moves for each station, time and station as a pair) and
-//! tuned (all moves in one vector with a range for each station, time and station in one word).
+//! kept and what the heap compares: straightforward (a vector of moves for each station, time and station as a pair)
+//! and tuned (all moves in one vector with a range for each station, time and station in one word).
 
 use std::cmp::Reverse;
 use std::collections::BinaryHeap;

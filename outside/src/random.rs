@@ -41,6 +41,13 @@ impl Random {
         items[self.below(items.len())]
     }
 
+    /// Puts the items into an order in which each is as likely as any other.
+    pub fn shuffle<T>(&mut self, items: &mut [T]) {
+        for at in (1..items.len()).rev() {
+            items.swap(at, self.below(at + 1));
+        }
+    }
+
     pub fn byte(&mut self) -> u8 {
         self.word() as u8
     }

@@ -1,42 +1,82 @@
 //! The engine's C interface (`include/yard.h`), and wrappers of it on slices. The only unsafe code of this folder.
 
-use crate::reference::{Search, Tables};
+/// The whole check and both searches of a build of the engine, by the names that its functions have.
+#[macro_export]
+macro_rules! calls_of_a_build {
+    ($check:ident, $plain:ident, $df:ident) => {
+        extern "C" {
+            fn $check(image: *const u8, image_len: usize, answer: *mut u32, answer_len: usize) -> u32;
+        }
+        $crate::declare_search!($plain);
+        $crate::declare_search!($df);
+
+        /// The whole check. Returns 0 or the refusal's number, as all four calls do.
+        pub fn check(image: &[u8], answer: &mut [u32]) -> u32 {
+            // SAFETY: each pointer goes with the length of its own slice, and the answer is lent alone.
+            unsafe { $check(image.as_ptr(), image.len(), answer.as_mut_ptr(), answer.len()) }
+        }
+
+        /// The plain or the DF search on lent tables.
+        pub fn search(
+            kind: $crate::reference::Search,
+            image: &[u8],
+            source: u16,
+            tables: $crate::reference::Tables,
+            answer: &mut [u32],
+        ) -> u32 {
+            let call = match kind {
+                $crate::reference::Search::Plain => $plain,
+                $crate::reference::Search::Df => $df,
+            };
+            // SAFETY: each pointer goes with the length of its own slice, and the slices cannot overlap.
+            unsafe {
+                call(
+                    image.as_ptr(),
+                    image.len(),
+                    source,
+                    tables.times.as_mut_ptr(),
+                    tables.times.len(),
+                    tables.preds.as_mut_ptr(),
+                    tables.preds.len(),
+                    tables.marks.as_mut_ptr(),
+                    tables.marks.len(),
+                    tables.list.as_mut_ptr(),
+                    tables.list.len(),
+                    answer.as_mut_ptr(),
+                    answer.len(),
+                )
+            }
+        }
+    };
+}
+
+#[doc(hidden)]
+#[macro_export]
+macro_rules! declare_search {
+    ($name:ident) => {
+        extern "C" {
+            fn $name(
+                image: *const u8,
+                image_len: usize,
+                source: u16,
+                times: *mut u32,
+                times_len: usize,
+                preds: *mut u16,
+                preds_len: usize,
+                marks: *mut u8,
+                marks_len: usize,
+                list: *mut u8,
+                list_len: usize,
+                answer: *mut u32,
+                answer_len: usize,
+            ) -> u32;
+        }
+    };
+}
+
+calls_of_a_build!(yard_check, yard_plain, yard_df);
 
 extern "C" {
-    fn yard_check(image: *const u8, image_len: usize, answer: *mut u32, answer_len: usize) -> u32;
-
-    fn yard_plain(
-        image: *const u8,
-        image_len: usize,
-        source: u16,
-        times: *mut u32,
-        times_len: usize,
-        preds: *mut u16,
-        preds_len: usize,
-        marks: *mut u8,
-        marks_len: usize,
-        list: *mut u8,
-        list_len: usize,
-        answer: *mut u32,
-        answer_len: usize,
-    ) -> u32;
-
-    fn yard_df(
-        image: *const u8,
-        image_len: usize,
-        source: u16,
-        times: *mut u32,
-        times_len: usize,
-        preds: *mut u16,
-        preds_len: usize,
-        marks: *mut u8,
-        marks_len: usize,
-        list: *mut u8,
-        list_len: usize,
-        answer: *mut u32,
-        answer_len: usize,
-    ) -> u32;
-
     fn yard_route(
         preds: *const u16,
         preds_len: usize,
@@ -46,38 +86,6 @@ extern "C" {
         answer: *mut u32,
         answer_len: usize,
     ) -> u32;
-}
-
-/// The whole check. Returns 0 or the refusal's number, as all four calls do.
-pub fn check(image: &[u8], answer: &mut [u32]) -> u32 {
-    // SAFETY: each pointer goes with the length of its own slice, and the answer is lent alone.
-    unsafe { yard_check(image.as_ptr(), image.len(), answer.as_mut_ptr(), answer.len()) }
-}
-
-/// The plain or the DF search on lent tables.
-pub fn search(kind: Search, image: &[u8], source: u16, tables: Tables, answer: &mut [u32]) -> u32 {
-    let call = match kind {
-        Search::Plain => yard_plain,
-        Search::Df => yard_df,
-    };
-    // SAFETY: each pointer goes with the length of its own slice, and the slices cannot overlap.
-    unsafe {
-        call(
-            image.as_ptr(),
-            image.len(),
-            source,
-            tables.times.as_mut_ptr(),
-            tables.times.len(),
-            tables.preds.as_mut_ptr(),
-            tables.preds.len(),
-            tables.marks.as_mut_ptr(),
-            tables.marks.len(),
-            tables.list.as_mut_ptr(),
-            tables.list.len(),
-            answer.as_mut_ptr(),
-            answer.len(),
-        )
-    }
 }
 
 /// The route to a station by the predecessors that a search left.
