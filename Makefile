@@ -1,4 +1,4 @@
-.PHONY: run test cases layers coils coils-test c-example stack fuzz bench bench-base libyard help
+.PHONY: run test cases layers coils coils-test c-example stack fuzz bench bench-peers bench-base libyard help
 
 # Proves and builds the program coils and runs it on document 01's example and on a plate yard.
 run:
@@ -74,6 +74,10 @@ ROUNDS ?= 600
 bench: target/outside/bench
 	target/outside/bench $(ROUNDS)
 
+# The same, and against LEMON and Boost where they are installed (needs rustc and a C++ compiler).
+bench-peers: target/outside/bench-peers
+	target/outside/bench-peers $(ROUNDS)
+
 # Proves an earlier COMMIT= from nothing and builds its libyard.a, to be the BASE of bench (needs git).
 bench-base:
 	test -n '$(COMMIT)'
@@ -110,6 +114,19 @@ endif
 
 target/outside/bench: $(BENCH)
 	$(RUSTC) $(LINKED) $(BASE_LINKED) -o $@ bench/main.rs
+
+# Compiled each time: a library may have been installed since.
+PEERS := $(patsubst %,target/outside/%.o,lemon boost peers)
+.PHONY: $(PEERS)
+$(PEERS): target/outside/%.o: bench/%.cpp
+	mkdir -p $(@D)
+	$(CXX) -std=c++17 -O3 -DNDEBUG -Wall -Wextra -Werror -c -o $@ $<
+
+target/outside/libpeers.a: $(PEERS)
+	$(AR) rcs $@ $^
+
+target/outside/bench-peers: $(BENCH) target/outside/libpeers.a
+	$(RUSTC) $(LINKED) $(BASE_LINKED) --cfg peers -L target/outside -l static=peers -l stdc++ -o $@ bench/main.rs
 
 # Lists the targets, each by the comment above it.
 help:

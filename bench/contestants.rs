@@ -1,5 +1,6 @@
 //! Who is measured. From the bytes of a map: both searches of the library under test, the two baselines in Rust and,
-//! where it is built in, both searches of another build of the library, the base..
+//! where it is built in, both searches of another build of the library, the base. On graphs made ready before, where
+//! they are built in: the searches of other libraries, the peers.
 
 use crate::baseline::{self, Joined};
 use outside::maps::Map;
@@ -15,6 +16,8 @@ pub enum Name {
     BaseDf,
     Straightforward,
     Tuned,
+    Lemon,
+    Boost,
 }
 
 impl fmt::Display for Name {
@@ -26,6 +29,8 @@ impl fmt::Display for Name {
             Name::BaseDf => "base DF",
             Name::Straightforward => "straightforward",
             Name::Tuned => "tuned",
+            Name::Lemon => "LEMON",
+            Name::Boost => "Boost",
         })
     }
 }
@@ -56,6 +61,8 @@ pub fn all<'a>(map: &Map, image: &'a [u8]) -> Vec<Box<dyn Contestant + 'a>> {
     for &(name, call) in FROM_BYTES {
         all.push(Box::new(FromBytes { name, image, call, kept: Kept::new(map.stations()), count: 0, reached: 0 }));
     }
+    #[cfg(peers)]
+    all.extend(crate::peers::all(map));
     all
 }
 

@@ -1,12 +1,14 @@
 //! The benchmark: both searches and the whole check through the C interface, against Dijkstra's search as one writes it
-//! in Rust without proofs (`baseline.rs`) and, where it is built in, another build of the library (`base.rs`). Takes the
-//! number of rounds as its argument and prints Markdown tables.
+//! in Rust without proofs (`baseline.rs`) and, where they are built in, an earlier build of the library (`base.rs`) and
+//! other libraries (`peers.rs`). Takes the number of rounds as its argument and prints Markdown tables.
 
 #[cfg(base)]
 mod base;
 mod baseline;
 mod contestants;
 mod maps;
+#[cfg(peers)]
+mod peers;
 mod rounds;
 mod tables;
 mod timing;
@@ -17,7 +19,7 @@ use rounds::Measured;
 use tables::Group;
 
 /// Whom the library's searches are compared with, a table for each kind.
-const RIVALS: [&[(Name, Name)]; 2] = [
+const RIVALS: [&[(Name, Name)]; 3] = [
     &[(Name::Plain, Name::BasePlain), (Name::Df, Name::BaseDf)],
     &[
         (Name::Plain, Name::Straightforward),
@@ -25,12 +27,15 @@ const RIVALS: [&[(Name, Name)]; 2] = [
         (Name::Df, Name::Straightforward),
         (Name::Df, Name::Tuned),
     ],
+    &[(Name::Plain, Name::Lemon), (Name::Plain, Name::Boost), (Name::Df, Name::Lemon), (Name::Df, Name::Boost)],
 ];
 
 fn main() {
     let rounds = std::env::args().nth(1).and_then(|count| count.parse().ok()).expect("the number of rounds");
     println!("Medians of {rounds} rounds (first to third quartile). Ratios are taken round by round; a geometric");
     println!("mean is that of the medians, with the least and the greatest of them.");
+    #[cfg(peers)]
+    peers::tell_missing();
     let groups = maps::groups().map(|group| measure(group, rounds));
     tables::print_times(&groups);
     for rivals in RIVALS {
