@@ -2,8 +2,10 @@
 //! where it is built in, both searches of another build of the library, the base. On graphs made ready before, where
 //! they are built in: the searches of other libraries, the peers.
 
+#[cfg(base)]
+use crate::base;
 use crate::baseline::{self, Joined};
-use outside::maps::Map;
+use outside::maps::{Map, MOST_STATIONS};
 use outside::reference::{Search, Tables};
 use outside::yard;
 use std::fmt;
@@ -59,7 +61,8 @@ pub struct Details<'a> {
 pub fn all<'a>(map: &Map, image: &'a [u8]) -> Vec<Box<dyn Contestant + 'a>> {
     let mut all: Vec<Box<dyn Contestant>> = Vec::new();
     for &(name, call) in FROM_BYTES {
-        all.push(Box::new(FromBytes { name, image, call, kept: Kept::new(map.stations()), count: 0, reached: 0 }));
+        let stations = map.stations();
+        all.push(Box::new(FromBytes { name, image, call, stations, kept: Kept::new(), count: 0, reached: 0 }));
     }
     #[cfg(peers)]
     all.extend(crate::peers::all(map));
@@ -67,50 +70,62 @@ pub fn all<'a>(map: &Map, image: &'a [u8]) -> Vec<Box<dyn Contestant + 'a>> {
 }
 
 /// A search from the bytes of a map: the list's count and the number of stations reached.
-type Call = fn(&[u8], u16, &mut Kept) -> Option<(u32, u32)>;
+type Call = fn(&[u8], u16, Tables) -> Option<(u32, u32)>;
 
 const FROM_BYTES: &[(Name, Call)] = &[
-    (Name::Plain, |image, source, kept| kept.lend(yard::search, Search::Plain, image, source)),
-    (Name::Df, |image, source, kept| kept.lend(yard::search, Search::Df, image, source)),
+    (Name::Plain, |image, source, tables| engine(yard::search, Search::Plain, image, source, tables)),
+    (Name::Df, |image, source, tables| engine(yard::search, Search::Df, image, source, tables)),
     #[cfg(base)]
-    (Name::BasePlain, |image, source, kept| kept.lend(crate::base::search, Search::Plain, image, source)),
+    (Name::BasePlain, |image, source, tables| engine(base::search, Search::Plain, image, source, tables)),
     #[cfg(base)]
-    (Name::BaseDf, |image, source, kept| kept.lend(crate::base::search, Search::Df, image, source)),
-    (Name::Straightforward, |image, source, Kept { times, preds, list, .. }| {
+    (Name::BaseDf, |image, source, tables| engine(base::search, Search::Df, image, source, tables)),
+    (Name::Straightforward, |image, source, Tables { times, preds, list, .. }| {
         baseline::search::<Vec<Vec<_>>, (u32, u16)>(image, source, times, preds, list)
     }),
-    (Name::Tuned, |image, source, Kept { times, preds, list, .. }| {
+    (Name::Tuned, |image, source, Tables { times, preds, list, .. }| {
         baseline::search::<Joined, u64>(image, source, times, preds, list)
     }),
 ];
 
-/// Tables of one contestant, used again in every round.
+/// A search of the C interface.
+fn engine(
+    search: fn(Search, &[u8], u16, Tables, &mut [u32]) -> u32,
+    kind: Search,
+    image: &[u8],
+    source: u16,
+    tables: Tables,
+) -> Option<(u32, u32)> {
+    let mut answer = [0; 4];
+    let refusal = search(kind, image, source, tables, &mut answer);
+    (refusal == 0).then_some((answer[0], answer[1]))
+}
+
+/// Tables of one contestant, used again in every round. They begin at a page of memory, so that those of all
+/// contestants lie alike in the machine's caches.
+#[repr(C, align(4096))]
 struct Kept {
-    times: Vec<u32>,
-    preds: Vec<u16>,
-    marks: Vec<u8>,
-    list: Vec<u8>,
+    times: [u32; MOST_STATIONS],
+    preds: [u16; MOST_STATIONS],
+    marks: [u8; MOST_STATIONS],
+    list: [u8; MOST_STATIONS],
 }
 
 impl Kept {
-    fn new(stations: usize) -> Self {
-        let (times, preds) = (vec![0; stations], vec![0; stations]);
-        let (marks, list) = (vec![0; stations], vec![0; stations]);
-        Kept { times, preds, marks, list }
+    fn new() -> Box<Self> {
+        let (times, preds) = ([0; MOST_STATIONS], [0; MOST_STATIONS]);
+        let (marks, list) = ([0; MOST_STATIONS], [0; MOST_STATIONS]);
+        Box::new(Kept { times, preds, marks, list })
     }
 
-    /// Lends the tables to a search of the C interface.
-    fn lend(
-        &mut self,
-        search: fn(Search, &[u8], u16, Tables, &mut [u32]) -> u32,
-        kind: Search,
-        image: &[u8],
-        source: u16,
-    ) -> Option<(u32, u32)> {
+    /// The first entries, one for each station.
+    fn tables(&mut self, stations: usize) -> Tables<'_> {
         let Kept { times, preds, marks, list } = self;
-        let mut answer = [0; 4];
-        let refusal = search(kind, image, source, Tables { times, preds, marks, list }, &mut answer);
-        (refusal == 0).then_some((answer[0], answer[1]))
+        Tables {
+            times: &mut times[..stations],
+            preds: &mut preds[..stations],
+            marks: &mut marks[..stations],
+            list: &mut list[..stations],
+        }
     }
 }
 
@@ -118,7 +133,8 @@ struct FromBytes<'a> {
     name: Name,
     image: &'a [u8],
     call: Call,
-    kept: Kept,
+    stations: usize,
+    kept: Box<Kept>,
     count: u32,
     reached: u32,
 }
@@ -129,16 +145,17 @@ impl Contestant for FromBytes<'_> {
     }
 
     fn search(&mut self, source: u16) {
-        let found = (self.call)(self.image, source, &mut self.kept);
+        let found = (self.call)(self.image, source, self.kept.tables(self.stations));
         (self.count, self.reached) = found.expect("the map is good");
     }
 
     fn times(&self) -> Vec<u32> {
-        self.kept.times.clone()
+        self.kept.times[..self.stations].to_vec()
     }
 
     fn details(&self) -> Option<Details<'_>> {
+        let preds = &self.kept.preds[..self.stations];
         let list = &self.kept.list[..self.count as usize];
-        Some(Details { preds: &self.kept.preds, reached: self.reached, list })
+        Some(Details { preds, reached: self.reached, list })
     }
 }
