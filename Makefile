@@ -22,7 +22,7 @@ cases: layers
 
 # What would look at page bytes, by the names that the sources use: a slice under another name escapes this.
 LOOKS := \b(page|image)\[|(byte_at|word_at|part_of|command_at)\((page|image)\b
-ABOVE_PAGE := relax steps search coil yard
+ABOVE_PAGE := layout queue relax engine search coil yard
 
 # Looks in the sources of the crates above page for an index of, or a byte read from, a slice called page or image.
 layers:

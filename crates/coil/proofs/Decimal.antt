@@ -9,7 +9,7 @@ use native.Mathlib.Omega.{arith}
 use lib.Dec.{ltb}
 use lib.ListN.{getD}
 use borrow.Author.Tests.{ltb-true, ltb-false}
-use Rattle.net.specs.Search.{pick}
+use Rattle.common.specs.Pick.{pick}
 use Rattle.coil.specs.Line.{ascii, digits, decimal}
 use Rattle.coil.proofs.Digits.{shorter}
 

@@ -10,7 +10,7 @@ use lib.Dec.{ltb}
 use lib.ListN.{length, take, drop, set, length-drop, length-append, length-set, drop-of-length-le}
 use lib.Seq.{take-all, drop-cons, drop-set-lt, getD-set-same}
 use borrow.Author.Tests.{lt-ltb, le-ltb}
-use Rattle.net.specs.Search.{pick}
+use Rattle.common.specs.Pick.{pick}
 use Rattle.coil.specs.Line.{digits, decimal}
 
 -- A number less its last digit is below a power of ten less.

@@ -2,12 +2,13 @@
 use mathlib.Core.Path.{_≡_, refl, ap, sym, _∙_}
 use mathlib.Core.List.{List, [], _++_, append-assoc}
 use Prim.Native.Nat.{ℕ, _+_, _≤_, _<_}
+use native.Mathlib.Nat.{zero-add}
 use native.Mathlib.Omega.{arith}
 use native.Mathlib.Numerals.{add-one}
 use lib.ListN.{length, getD, set, take, drop, length-append}
 use lib.Seq.{take-at, take-length, length-take-le, drop-append-add, drop-drop, paste, paste-suc}
-use Rattle.search.specs.Reply.{over}
-use Rattle.coil.specs.Writing.{placed, Fronted}
+use Rattle.common.specs.Window.{placed}
+use Rattle.coil.specs.Writing.{Fronted}
 
 -- A byte more of the text.
 pub paste-more : (buffer : List ℕ) (at : ℕ) (text now : List ℕ) (i : ℕ) → at + i < length buffer → i < length text
@@ -24,7 +25,10 @@ length-before : (buffer text : List ℕ) (at : ℕ) → at ≤ length buffer
     → at + length text ≡ length (take at buffer ++ text)
 length-before buffer text at h = rw length-append (ap (λ n. n + length text) (sym (length-take-le at buffer h)))
 
--- A text behind what is written already.
+-- A text behind what is written already, which reaches from the front up to there.
+abbrev over : List ℕ → List ℕ → List ℕ
+over front table = front ++ drop (length front) table
+
 placed-behind : (written text before : List ℕ) (at : ℕ) → at ≡ length written
     → placed (over written before) at text ≡ over (written ++ text) before
 placed-behind written text before at e =
@@ -64,6 +68,10 @@ fronted-none before = record { line = refl; size = refl }
 pub fronted-more : {text before line after : List ℕ} {at behind : ℕ} (more : List ℕ) → Fronted text before line at
     → after ≡ placed line at more → behind ≡ at + length more → Fronted (text ++ more) before after behind
 fronted-more {text} {before} {at = at} more f put by = record {
-  line = put ∙ ap (λ l. placed l at more) (f .line) ∙ placed-behind text more before at (f .size);
+  line =
+      put ∙
+      ap (λ l. placed l at more) (f .line) ∙
+      ap (λ n. placed (placed before 0 text) n more) (f .size ∙ sym (zero-add (length text))) ∙
+      placed-twice before text more 0 (omega arith);
   size = by ∙ ap (λ n. n + length more) (f .size) ∙ sym (length-append text more);
 }

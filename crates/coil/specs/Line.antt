@@ -6,9 +6,11 @@ use Prim.Native.String.{String}
 use Prim.Native.String.{[] as ended, _∷_ as _then_}
 use lib.ListN.{replicate}
 use lib.Dec.{ltb}
-use Rattle.net.specs.Search.{pick, dfSearch}
+use Rattle.common.specs.Pick.{pick}
+use Rattle.net.specs.Search.{dfSearch}
 use Rattle.page.specs.Bytes.{word}
-use Rattle.search.specs.Reply.{Reply, accepted, refused, page-refused, Lent, lent, searched}
+use Rattle.page.specs.Image.{Outcome, accepted, refused}
+use Rattle.search.specs.Reply.{Reply, asked, Lent, lent, searched}
 
 -- "Whole numbers are little-endian": the u32 at an offset.
 abbrev pub long : List ℕ → ℕ → ℕ
@@ -57,10 +59,13 @@ acceptedLine coil length station count reached =
 unfoldable pub refusalLine : ℕ → ℕ → List ℕ
 refusalLine coil number = named "coil " coil ++ named " refused " number ++ ascii "\n"
 
+abbrev pub lineBy : Outcome → ℕ → List ℕ → List ℕ
+lineBy accepted coil line = line
+lineBy (refused number place) coil line = refusalLine coil number
+
 abbrev pub lineOf : ℕ → ℕ → ℕ → Reply → List ℕ
-lineOf coil length station (accepted count reached) = acceptedLine coil length station count reached
-lineOf coil length station (refused number place) = refusalLine coil number
-lineOf coil length station (page-refused number page offset count) = refusalLine coil number
+lineOf coil length station r =
+    lineBy (r .outcome) coil (acceptedLine coil length station (r .count) (r .reached))
 
 -- Four tables with room for every map. What stands in them has no bearing on the reply (proofs/Answering.antt).
 abbrev pub blank : Lent
@@ -70,4 +75,4 @@ blank = lent (replicate 2048 0) (replicate 2048 0) (replicate 2048 0) (replicate
 unfoldable pub recordLine : List ℕ → List ℕ → List ℕ
 recordLine image bytes =
     lineOf (coilOf bytes) (lengthOf bytes) (stationOf bytes)
-    ((searched dfSearch image (stationOf bytes) blank) .reply)
+    ((searched dfSearch (asked image (stationOf bytes)) blank) .reply)

@@ -7,8 +7,8 @@ use mathlib.Core.List.{List, [], _++_}
 use Prim.Native.Nat.{ℕ, zero, suc}
 use lib.ListN.{length, take, drop}
 use lib.Dec.{leb, eqb}
-use Rattle.net.specs.Search.{pick}
-use Rattle.search.specs.Reply.{over}
+use Rattle.common.specs.Pick.{pick}
+use Rattle.common.specs.Window.{placed}
 use Rattle.coil.specs.Line.{ascii, recordLine}
 
 -- "reads `yard.map` (a file that can't be opened is empty; past 63,492 bytes it counts as 63,493 long)". So long a
@@ -47,6 +47,6 @@ ReadFrom source buffer size = take size buffer ≡ take (length buffer) source
 -- A turn's output at the front of the line's buffer, and the bytes behind it kept; how many bytes are printed; and
 -- whether another turn follows.
 pub record Turned (image input before after : List ℕ) (printed : ℕ) (more : Bool) : Type 0 where
-  pub line : after ≡ over (turnOf image input) before
+  pub line : after ≡ placed before 0 (turnOf image input)
   pub size : printed ≡ length (turnOf image input)
   pub follows : more ≡ hasRecord input

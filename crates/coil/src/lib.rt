@@ -4,8 +4,9 @@
 ghost use mathlib.Core.Path.{_≡_};
 ghost use Prim.Native.Nat.{_≤_};
 ghost use lib.ListN.{length};
+ghost use Rattle.common.specs.Window.{placed};
 ghost use Rattle.net.specs.Search.{dfSearch};
-ghost use Rattle.search.specs.Reply.{over, meaning, searched};
+ghost use Rattle.search.specs.Reply.{asked, replyOf, searched};
 ghost use Rattle.coil.specs.Line.{blank, recordLine};
 use lines::put_line;
 use records::record_of;
@@ -16,12 +17,12 @@ pub mod program;
 mod records;
 mod text;
 
-// The bytes of a line's buffer: room for the words and for five numbers of twenty digits, so that no line is cut.
+// The bytes of a line's buffer (specs/Writing.antt, `lineRoom`).
 pub const ROOM: usize = 160;
 
 // The search from a station, on tables with room for every map.
 fn search_from(image: &[u8], station: u16) -> Answer
-    ensures reply { λ r. ⌜ meaning r ≡ (searched dfSearch (now (image .entry)) station blank) .reply ⌝ }
+    ensures reply { λ r. ⌜ replyOf r ≡ (searched dfSearch (asked (now (image .entry)) station) blank) .reply ⌝ }
 {
     let mut times = [0u32; 2048];
     let mut preds = [0u16; 2048];
@@ -40,7 +41,7 @@ fn search_from(image: &[u8], station: u16) -> Answer
 // Puts the record's line at the front of the buffer, and answers how many bytes it has; the bytes behind it are kept.
 pub fn answer_record(image: &[u8], bytes: &[u8; 8], line: &mut [u8; ROOM]) -> usize
     ensures line { λ r. ⌜
-        now (line .exit) ≡ over (recordLine (now (image .entry)) (now (bytes .entry))) (now (line .entry)) ⌝ }
+        now (line .exit) ≡ placed (now (line .entry)) 0 (recordLine (now (image .entry)) (now (bytes .entry))) ⌝ }
     ensures size { λ r. ⌜ r ≡ length (recordLine (now (image .entry)) (now (bytes .entry))) ⌝ }
     ensures fits { λ r. ⌜ r ≤ length (now (line .exit)) ⌝ }
 {

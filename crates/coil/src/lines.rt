@@ -1,11 +1,11 @@
-// The line of a record: what the search answered, in words and decimal numbers, at the front of a buffer of 160 bytes
-// or more.
+// The line of a record: what the search answered, in words and decimal numbers, at the front of a buffer with
+// room for it.
 
 ghost use Prim.Native.Nat.{_≤_};
 ghost use lib.ListN.{length};
-ghost use Rattle.search.specs.Reply.{meaning};
+ghost use Rattle.search.specs.Reply.{replyOf};
 ghost use Rattle.coil.specs.Line.{sourceWords, acceptedLine, refusalLine, lineOf};
-ghost use Rattle.coil.specs.Writing.{Fronted};
+ghost use Rattle.coil.specs.Writing.{lineRoom, Fronted};
 use super::records::Record;
 use super::text::put_number;
 use super::text::put_text;
@@ -13,7 +13,7 @@ use search::Answer;
 
 // `coil C length L from S`
 fn put_source(line: &mut [u8], parts: Record) -> usize
-    requires room { ⌜ 160 ≤ length (now line) ⌝ }
+    requires room { ⌜ lineRoom ≤ length (now line) ⌝ }
     ensures put { λ r. ⌜
         Fronted (sourceWords (parts .coil) (parts .length) (parts .station))
         (now (line .entry)) (now (line .exit)) r ⌝ }
@@ -26,11 +26,11 @@ fn put_source(line: &mut [u8], parts: Record) -> usize
 
 // `coil C length L from S pages K reached R`
 fn put_accepted(line: &mut [u8], parts: Record, count: usize, reached: usize) -> usize
-    requires room { ⌜ 160 ≤ length (now line) ⌝ }
+    requires room { ⌜ lineRoom ≤ length (now line) ⌝ }
     ensures put { λ r. ⌜
         Fronted (acceptedLine (parts .coil) (parts .length) (parts .station) count reached)
         (now (line .entry)) (now (line .exit)) r ⌝ }
-    ensures within { λ r. ⌜ r ≤ 160 ⌝ }
+    ensures within { λ r. ⌜ r ≤ lineRoom ⌝ }
 {
     let mut at = put_source(line, parts);
     at = put_number(line, at, b" pages ", count as u64);
@@ -40,9 +40,9 @@ fn put_accepted(line: &mut [u8], parts: Record, count: usize, reached: usize) ->
 
 // `coil C refused N`
 fn put_refusal(line: &mut [u8], coil: u32, number: u8) -> usize
-    requires room { ⌜ 160 ≤ length (now line) ⌝ }
+    requires room { ⌜ lineRoom ≤ length (now line) ⌝ }
     ensures put { λ r. ⌜ Fronted (refusalLine coil number) (now (line .entry)) (now (line .exit)) r ⌝ }
-    ensures within { λ r. ⌜ r ≤ 160 ⌝ }
+    ensures within { λ r. ⌜ r ≤ lineRoom ⌝ }
 {
     let mut at = put_number(line, 0, b"coil ", coil as u64);
     at = put_number(line, at, b" refused ", number as u64);
@@ -51,21 +51,14 @@ fn put_refusal(line: &mut [u8], coil: u32, number: u8) -> usize
 
 // The line of a record whose search answered so.
 pub fn put_line(line: &mut [u8], parts: Record, answer: Answer) -> usize
-    requires room { ⌜ 160 ≤ length (now line) ⌝ }
+    requires room { ⌜ lineRoom ≤ length (now line) ⌝ }
     ensures put { λ r. ⌜
-        Fronted (lineOf (parts .coil) (parts .length) (parts .station) (meaning answer))
+        Fronted (lineOf (parts .coil) (parts .length) (parts .station) (replyOf answer))
         (now (line .entry)) (now (line .exit)) r ⌝ }
-    ensures within { λ r. ⌜ r ≤ 160 ⌝ }
+    ensures within { λ r. ⌜ r ≤ lineRoom ⌝ }
 {
     match answer {
         Answer::Accepted { count, reached } => put_accepted(line, parts, count, reached),
-        Answer::Refused(number) => put_refusal(line, parts.coil, number),
-        Answer::NoPage(_) => put_refusal(line, parts.coil, 5),
-        Answer::BadPage {
-            number,
-            page: _,
-            offset: _,
-            count: _,
-        } => put_refusal(line, parts.coil, number),
+        Answer::Refused { refusal, count: _ } => put_refusal(line, parts.coil, refusal.number),
     }
 }

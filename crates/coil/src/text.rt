@@ -4,8 +4,8 @@ ghost use mathlib.Core.Path.{_≡_};
 ghost use mathlib.Core.List.{_++_};
 ghost use Prim.Native.Nat.{_+_, _%_, _≤_};
 ghost use lib.ListN.{length, drop};
+ghost use Rattle.common.specs.Window.{placed};
 ghost use Rattle.coil.specs.Line.{decimal};
-ghost use Rattle.coil.specs.Writing.{placed};
 
 // Puts text into a line, and answers the place behind it.
 pub fn put_text(line: &mut [u8], at: usize, text: &[u8]) -> usize

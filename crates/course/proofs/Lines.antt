@@ -11,8 +11,8 @@ use Rattle.page.specs.Image.{directoryOf, pageBytes, firstNotBelow, headingChec
 use Rattle.page.specs.Reading.{commandAt, firstOn, nextOn, judgeEnd, judgeStation, judgeMove, judge, judgedAt}
 use Rattle.page.specs.Reading.{readFrom, readPage, movesOf}
 use Rattle.page.specs.Check.{readingOf}
-use Rattle.steps.specs.Map.{mapPage}
-use Rattle.search.specs.Reply.{onMap, searched}
+use Rattle.engine.specs.Map.{mapPage}
+use Rattle.search.specs.Reply.{callCheck, onMap, searched}
 use Rattle.coil.specs.Line.{ascii, digits, sourceWords, acceptedLine, refusalLine, recordLine}
 use Rattle.coil.specs.Program.{turnOf, linesFrom, printed}
 use Rattle.course.specs.Cases.{m7}
@@ -27,11 +27,11 @@ pub example : printed m7 records ≡ ascii "coil 7 length 8120 from 0 pages 3 re
 unfolding turnOf linesFrom ascii digits sourceWords acceptedLine refusalLine recordLine count least iter reached start
     choose chooseOn readFor relax relaxAll visit workTurn workThrough dfVisit stepBy searchBy dfSearch allZero
     directoryOf pageBytes firstNotBelow headingCheck commandAt firstOn nextOn judgeEnd judgeStation judgeMove judge
-    judgedAt readFrom readPage readingOf movesOf mapPage onMap searched
+    judgedAt readFrom readPage readingOf movesOf mapPage callCheck onMap searched
 example = refl
 
 -- One byte left over behind the first record.
 pub example-short : printed m7 (0x07 ∷ 0 ∷ 0 ∷ 0 ∷ 0xB8 ∷ 0x1F ∷ 0x07 ∷ 0 ∷ 0x08 ∷ [])
     ≡ ascii "coil 7 refused 6\nshort\n"
-unfolding turnOf linesFrom ascii digits refusalLine recordLine directoryOf firstNotBelow headingCheck searched
+unfolding turnOf linesFrom ascii digits refusalLine recordLine directoryOf firstNotBelow headingCheck callCheck searched
 example-short = refl

@@ -1,8 +1,7 @@
 -- The ten cases, as one computation: what the definitions answer, row by row, is the answer of document 01; and the
 -- law that takes out a row.
-use mathlib.Core.Path.{_≡_, refl, ap}
-use mathlib.Core.List.{List, [], _∷_, map, List·Memᴰ, List·Memᴰ·head, List·Memᴰ·tail}
-use Prim.Native.Nat.{ℕ}
+use mathlib.Core.Path.{_≡_, refl}
+use mathlib.Core.List.{List, _∷_, map, List·Memᴰ, List·Memᴰ·head, List·Memᴰ·tail}
 use Rattle.net.specs.Net.{count, changes, onePageReads}
 use Rattle.net.specs.Search.{least, iter, reached, start, choose, chooseOn, readFor, relax, relaxAll, visit}
 use Rattle.net.specs.Search.{workTurn, workThrough}
@@ -12,8 +11,8 @@ use Rattle.page.specs.Image.{directoryOf, pageBytes, firstNotBelow, headingChec
 use Rattle.page.specs.Reading.{commandAt, firstOn, nextOn, judgeEnd, judgeStation, judgeMove, judge, judgedAt}
 use Rattle.page.specs.Reading.{readFrom, readPage, movesOf}
 use Rattle.page.specs.Check.{readingOf}
-use Rattle.steps.specs.Map.{mapPage}
-use Rattle.search.specs.Reply.{onMap, searched}
+use Rattle.engine.specs.Map.{mapPage}
+use Rattle.search.specs.Reply.{callCheck, onMap, searched}
 use Rattle.route.specs.Route.{chain, outcome, routeCall}
 use Rattle.course.specs.Cases.{Case, shown, cases}
 
@@ -24,7 +23,7 @@ table : map (λ (c : Case). shown (c .question) (c .image) (c .source)) cases �
 unfolding cases count changes onePageReads least iter reached start choose chooseOn readFor relax relaxAll visit
     workTurn workThrough plainVisit dfVisit stepBy searchBy plainSearch dfSearch allZero directoryOf
     pageBytes firstNotBelow headingCheck commandAt firstOn nextOn judgeEnd judgeStation judgeMove judge
-    judgedAt readFrom readPage readingOf movesOf mapPage onMap searched chain outcome routeCall
+    judgedAt readFrom readPage readingOf movesOf mapPage callCheck onMap searched chain outcome routeCall
 table = refl
 
 by-rows : (rows : List Case)

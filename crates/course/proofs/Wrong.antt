@@ -6,19 +6,21 @@ use mathlib.Core.List.{List, [], _∷_, List·Memᴰ, List·Memᴰ·head, List·
 use mathlib.Core.List.{Sublistᴰ, Sublistᴰ·cons, Sublistᴰ·cons-cons, Sublistᴰ·eq-nil}
 use Prim.Native.Nat.{ℕ, _≤_, _<_}
 use native.Mathlib.Omega.{arith}
+use Rattle.common.specs.Numbers.{noTime}
 use Rattle.net.specs.Net.{isGood, Walk, here, onward, count, timesIn, movesTo, entersFrom, isEntry, entryStations}
 use Rattle.net.specs.Search.{least, iter, reached, start, choose, chooseOn, readFor, relax, relaxAll, visit}
 use Rattle.net.specs.Search.{workTurn, workThrough}
 use Rattle.net.specs.Search.{plainVisit, dfVisit, stepBy, searchBy, plainSearch, dfSearch}
 use Rattle.page.specs.Bytes.{allZero}
+use Rattle.page.specs.Image.{accepted, refused, on-page}
 use Rattle.page.specs.Image.{AgreeOnDirectory, AgreeOnPage, directoryOf, pageBytes, firstNotBelow, headingCheck}
 use Rattle.page.specs.Reading.{commandAt, firstOn, nextOn, judgeEnd, judgeStation, judgeMove, judge, judgedAt}
 use Rattle.page.specs.Reading.{readFrom, readPage, movesOf}
 use Rattle.page.specs.Check.{readingOf}
-use Rattle.steps.specs.Map.{mapFrame, mapPage}
-use Rattle.search.specs.Reply.{accepted, refused, page-refused, Handed, onMap, searched, listOf}
+use Rattle.engine.specs.Map.{mapFrame, mapPage}
+use Rattle.search.specs.Reply.{Handed, callCheck, onMap, searched, listOf}
 use Rattle.search.specs.Promises.{SameLengths}
-use Rattle.course.specs.Cases.{m7, m7Bad, lentFor}
+use Rattle.course.specs.Cases.{m7, m7Bad, lentFor, ours, dijkstras}
 use Rattle.course.specs.Wrong.{Wrong, Refused, wrongVersions, refusesAll, dijkstrasOwnList, pageLeftOut}
 use Rattle.course.specs.Wrong.{pageThatDijkstrasLacks, otherReachedCount, fixedAnswer, tablesUntouched, noneLeft}
 use Rattle.course.specs.Wrong.{merelySettles, badPageWithoutMoves}
@@ -30,23 +32,23 @@ record Computed : Type 0 where
   to-4 : Walk (mapFrame m7Bad) (mapPage m7Bad) 0 4 2
   page-1-is-bad : isGood (mapPage m7Bad 1) ≡ false
   entries-of-page-0 : entryStations (mapFrame m7) (mapPage m7) 0 (0 ∷ 1 ∷ 0 ∷ 0 ∷ 0 ∷ 1 ∷ 1 ∷ []) 0 ≡ 2
-  reply : (searched dfSearch m7 0 (lentFor m7)) .reply ≡ accepted 3 7
-  reply-if-bad : (searched dfSearch m7Bad 0 (lentFor m7)) .reply ≡ page-refused 8 1 0 2
-  dijkstras-list-from-6 : listOf (searched plainSearch m7 6 (lentFor m7)) ≡ 1 ∷ []
+  outcome : (ours m7 0) .reply .outcome ≡ accepted
+  outcome-if-bad : (ours m7Bad 0) .reply .outcome ≡ refused 8 (on-page 1 0)
+  dijkstras-list-from-6 : listOf (dijkstras m7 6) ≡ 1 ∷ []
 
 computed : Computed
 unfolding count timesIn movesTo entersFrom isEntry entryStations least iter reached start choose chooseOn readFor relax
     relaxAll visit workTurn workThrough plainVisit dfVisit stepBy searchBy plainSearch dfSearch allZero directoryOf
     pageBytes firstNotBelow headingCheck commandAt firstOn nextOn judgeEnd judgeStation judgeMove judge judgedAt
-    readFrom readPage readingOf movesOf mapPage onMap searched
+    readFrom readPage readingOf movesOf mapPage callCheck onMap searched
 computed = record {
   to-1 = onward 1 4 here (List·Memᴰ·head refl);
   to-2-through-4 = onward 2 1 (onward 4 2 here (List·Memᴰ·tail (List·Memᴰ·head refl))) (List·Memᴰ·head refl);
   to-4 = onward 4 2 here (List·Memᴰ·tail (List·Memᴰ·head refl));
   page-1-is-bad = refl;
   entries-of-page-0 = refl;
-  reply = refl;
-  reply-if-bad = refl;
+  outcome = refl;
+  outcome-if-bad = refl;
   dijkstras-list-from-6 = refl;
 }
 
@@ -57,7 +59,7 @@ same-lengths = record { times = refl; preds = refl; marks = refl; list = refl }
 -- the map is not refused
 refuses-all : Refused refusesAll
 refuses-all says =
-    let e = ap (λ (h : Handed). h .reply) says ∙ computed .reply in
+    let e = ap (λ (h : Handed). h .reply .outcome) says ∙ computed .outcome in
     let z : _≡_ {A = ℕ} 0 1 = cc in omega arith
 
 -- page 0 stands there 4 times and has 2 entry stations, 0 and 2
@@ -65,14 +67,15 @@ dijkstras-own-list : Refused dijkstrasOwnList
 unfolding timesIn
 dijkstras-own-list says =
     let often : 4 ≤ entryStations (mapFrame m7) (mapPage m7) 0 (0 ∷ 1 ∷ 0 ∷ 0 ∷ 0 ∷ 1 ∷ 1 ∷ []) 0 =
-    says 7 7 refl (lentFor m7) same-lengths .lists .often 0 in
+    says refl (lentFor m7) same-lengths .lists .often 0 in
     omega (arith, computed .entries-of-page-0)
 
 -- M7 with page 1 bad agrees on page 0, and is refused
 page-left-out : Refused pageLeftOut
 unfolding directoryOf pageBytes
 page-left-out says =
-    let e = ap (λ (h : Handed). h .reply) (says m7Bad refl refl same-directory agree) ∙ computed .reply-if-bad in
+    let other = says m7Bad refl refl same-directory agree in
+    let e = ap (λ (h : Handed). h .reply .outcome) other ∙ computed .outcome-if-bad in
     let z : _≡_ {A = ℕ} 0 1 = cc in omega arith
   where
     same-directory : AgreeOnDirectory m7 m7Bad
@@ -88,7 +91,7 @@ page-left-out says =
 -- Dijkstra's list from 6 is 1
 page-that-dijkstras-lacks : Refused pageThatDijkstrasLacks
 page-that-dijkstras-lacks says =
-    no-part (rw (computed .dijkstras-list-from-6) at (says 2 1 refl (lentFor m7) same-lengths .lists .part))
+    no-part (rw (computed .dijkstras-list-from-6) at (says refl (lentFor m7) same-lengths .lists .part))
   where
     no-part : Sublistᴰ {A = ℕ} (1 ∷ 0 ∷ []) (1 ∷ []) → ⊥
     no-part (Sublistᴰ·cons s) = let e = Sublistᴰ·eq-nil s in let z : _≡_ {A = ℕ} 0 1 = cc in omega arith
@@ -97,29 +100,29 @@ page-that-dijkstras-lacks says =
 -- seven stations have a time
 other-reached-count : Refused otherReachedCount
 unfolding count directoryOf
-other-reached-count says = let z : _≡_ {A = ℕ} 6 7 = says 3 6 refl .count in omega arith
+other-reached-count says = let z : _≡_ {A = ℕ} 6 7 = says refl .count in omega arith
 
 fixed-answer : Refused fixedAnswer
 unfolding count directoryOf
-fixed-answer says = let z : _≡_ {A = ℕ} 1 7 = says 1 1 refl .count in omega arith
+fixed-answer says = let z : _≡_ {A = ℕ} 1 7 = says refl .count in omega arith
 
 -- the empty walk leads to the source in no time, not in 9
 tables-untouched : Refused tablesUntouched
-tables-untouched says = let z : 9 ≤ 0 = says 3 7 refl .least 0 0 here in omega arith
+tables-untouched says = let z : 9 ≤ 0 = says refl .least 0 0 here in omega arith
 
 -- a walk leads to station 1
 none-left : Refused noneLeft
-none-left says = let z : 4294967295 < 4294967295 = says 0 1 refl .timed 1 4 (computed .to-1) in omega arith
+none-left says = let z : noTime < noTime = says refl .timed 1 4 (computed .to-1) in omega arith
 
 -- a walk of time 3 leads to station 2, through 4
 merely-settles : Refused merelySettles
-merely-settles says = let z : 7 ≤ 3 = says 1 6 refl .least 2 3 (computed .to-2-through-4) in omega arith
+merely-settles says = let z : 7 ≤ 3 = says refl .least 2 3 (computed .to-2-through-4) in omega arith
 
 -- a walk leads to station 4, whose page is bad
 bad-page-without-moves : Refused badPageWithoutMoves
 unfolding directoryOf
 bad-page-without-moves says =
-    true≢false (sym (says 2 6 refl .pages-good 4 2 (computed .to-4)) ∙ computed .page-1-is-bad)
+    true≢false (sym (says refl .pages-good 4 2 (computed .to-4)) ∙ computed .page-1-is-bad)
 
 -- All of them, by the table.
 infixr 5 _then_

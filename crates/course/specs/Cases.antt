@@ -3,11 +3,13 @@
 use mathlib.Core.List.{List, [], _∷_, _++_}
 use Prim.Native.Nat.{ℕ}
 use lib.ListN.{getD, set, take, replicate}
-use Rattle.net.specs.Net.{Frame, Page, onePageReads}
-use Rattle.net.specs.Search.{State, plainSearch, dfSearch}
-use Rattle.page.specs.Image.{Place, nowhere, at-station, on-page, stationCount}
-use Rattle.search.specs.Reply.{Reply, accepted, refused, page-refused, Lent, lent, Handed, searched, listOf}
-use Rattle.route.specs.Route.{Handed as RouteHanded, Answer, stations, unreached, turnedDown, routeCall}
+use Rattle.common.specs.Numbers.{noTime, sourceMark}
+use Rattle.net.specs.Net.{onePageReads}
+use Rattle.net.specs.Search.{plainSearch, dfSearch}
+use Rattle.page.specs.Image.{Place, nowhere, at-station, on-page, Outcome, accepted, refused, stationCount}
+use Rattle.search.specs.Reply.{asked, Lent, lent, Handed, searched, listOf}
+use Rattle.route.specs.Route as route
+use Rattle.route.specs.Route.{stations, unreached, turnedDown, routeCall}
 
 -- A page of 256 bytes that begins so.
 abbrev paged : List ℕ → List ℕ
@@ -69,26 +71,31 @@ pub record Case : Type 0 where
   pub question : Question
   pub answer : List ℕ
 
--- The search on tables of as many entries as the map has stations.
+-- Tables of as many entries as the map has stations; and what either search hands back for them.
 abbrev pub lentFor : List ℕ → Lent
 lentFor image = let nines : List ℕ = replicate (stationCount image) 9 in lent nines nines nines nines
+
+abbrev pub ours : List ℕ → ℕ → Handed
+ours image source = searched dfSearch (asked image source) (lentFor image)
+
+abbrev pub dijkstras : List ℕ → ℕ → Handed
+dijkstras image source = searched plainSearch (asked image source) (lentFor image)
 
 abbrev placeNumbers : Place → List ℕ
 placeNumbers nowhere = []
 placeNumbers (at-station v) = v ∷ []
 placeNumbers (on-page p offset) = p ∷ offset ∷ []
 
-abbrev replyNumbers : Reply → List ℕ
-replyNumbers (accepted count reached) = 0 ∷ reached ∷ []
-replyNumbers (refused number place) = number ∷ placeNumbers place
-replyNumbers (page-refused number p offset count) = number ∷ p ∷ offset ∷ []
+abbrev replyNumbers : Outcome → ℕ → List ℕ
+replyNumbers accepted reached = 0 ∷ reached ∷ []
+replyNumbers (refused number place) reached = number ∷ placeNumbers place
 
-abbrev routeNumbers : Answer → List ℕ → List ℕ
+abbrev routeNumbers : route.Answer → List ℕ → List ℕ
 routeNumbers (stations count) out = take count out
 routeNumbers unreached out = []
 routeNumbers (turnedDown number) out = number ∷ []
 
-abbrev routeShown : RouteHanded → List ℕ
+abbrev routeShown : route.Handed → List ℕ
 routeShown h = routeNumbers (h .answer) (h .output)
 
 abbrev listAndReads : List ℕ → List ℕ
@@ -96,19 +103,16 @@ listAndReads list = list ++ (onePageReads list ∷ [])
 
 -- What the definitions answer.
 abbrev pub shown : Question → List ℕ → ℕ → List ℕ
-shown tables image source =
-    let h = searched dfSearch image source (lentFor image) in h .tables .times ++ h .tables .preds
-shown ourList image source = listAndReads (listOf (searched dfSearch image source (lentFor image)))
-shown dijkstrasList image source = listAndReads (listOf (searched plainSearch image source (lentFor image)))
-shown timesAndList image source = let h = searched dfSearch image source (lentFor image) in h .tables .times ++ listOf h
+shown tables image source = let h = ours image source in h .tables .times ++ h .tables .preds
+shown ourList image source = listAndReads (listOf (ours image source))
+shown dijkstrasList image source = listAndReads (listOf (dijkstras image source))
+shown timesAndList image source = let h = ours image source in h .tables .times ++ listOf h
 shown replyAndList image source =
-    let h = searched dfSearch image source (lentFor image) in replyNumbers (h .reply) ++ listOf h
+    let h = ours image source in replyNumbers (h .reply .outcome) (h .reply .reached) ++ listOf h
 shown (timeAndPredecessor v) image source =
-    let h = searched dfSearch image source (lentFor image) in
-    getD (h .tables .times) v 0 ∷ getD (h .tables .preds) v 0 ∷ []
+    let h = ours image source in getD (h .tables .times) v 0 ∷ getD (h .tables .preds) v 0 ∷ []
 shown (routeTo v) image source =
-    let h = searched dfSearch image source (lentFor image) in
-    routeShown (routeCall (h .tables .preds) v (replicate (stationCount image) 9))
+    let h = ours image source in routeShown (routeCall (h .tables .preds) v (replicate (stationCount image) 9))
 
 abbrev row : List ℕ → ℕ → Question → List ℕ → Case
 row image source question answer = record { image = image; source = source; question = question; answer = answer }
@@ -116,10 +120,10 @@ row image source question answer = record { image = image; source = source; ques
 -- C1 to C10.
 unfoldable pub cases : List Case
 cases =
-    row m7 0 tables (0 ∷ 4 ∷ 3 ∷ 6 ∷ 2 ∷ 8 ∷ 9 ∷ 65534 ∷ 0 ∷ 4 ∷ 2 ∷ 0 ∷ 4 ∷ 5 ∷ []) ∷
+    row m7 0 tables (0 ∷ 4 ∷ 3 ∷ 6 ∷ 2 ∷ 8 ∷ 9 ∷ sourceMark ∷ 0 ∷ 4 ∷ 2 ∷ 0 ∷ 4 ∷ 5 ∷ []) ∷
     row m7 0 ourList (0 ∷ 1 ∷ 0 ∷ 3 ∷ []) ∷
     row m7 0 dijkstrasList (0 ∷ 1 ∷ 0 ∷ 0 ∷ 0 ∷ 1 ∷ 1 ∷ 4 ∷ []) ∷
-    row m7 6 timesAndList (replicate 6 4294967295 ++ (0 ∷ 1 ∷ [])) ∷
+    row m7 6 timesAndList (replicate 6 noTime ++ (0 ∷ 1 ∷ [])) ∷
     row single 0 timesAndList (0 ∷ 0 ∷ []) ∷
     row diamond 0 (timeAndPredecessor 3) (10 ∷ 1 ∷ []) ∷
     row m7Bad 0 replyAndList (8 ∷ 1 ∷ 0 ∷ 0 ∷ 1 ∷ []) ∷

@@ -1,16 +1,17 @@
 -- The versions of a search that the contracts have to reject (01, "Contracts and course cases"), each as what it hands
--- back for a course map, with the clause of `df` that refuses it. The tables lent are full of nines.
+-- back for a course map, with the part of what `df` promises that refuses it. The tables lent are full of nines.
 use mathlib.Core.Path.{_≡_}
 use mathlib.Core.List.{List, [], _∷_, _++_}
 use Prim.Native.Nat.{ℕ}
 use lib.ListN.{take, replicate}
+use Rattle.common.specs.Numbers.{noTime, sourceMark, noPred}
 use Rattle.net.specs.Search.{dfSearch}
-use Rattle.page.specs.Image.{nowhere}
-use Rattle.search.specs.Reply.{Reply, accepted, refused, Handed, handed, lent, searched}
+use Rattle.page.specs.Image.{accepted, refused, nowhere}
+use Rattle.search.specs.Reply.{asked, reply, Handed, handed, lent}
 use Rattle.search.specs.Promises.{TimesAreLeast, ListAgainstDijkstra, SameOnListedPages}
-use Rattle.course.specs.Cases.{m7, m7Bad, lentFor}
+use Rattle.course.specs.Cases.{m7, m7Bad, lentFor, ours}
 
--- The clauses of `df` in crates/search/src/calls.rt, by their names.
+-- The parts of what `df` promises (search/specs/Promises.antt), by their names.
 pub data Clause : Type 0 where
   outcome times list images : Clause
 
@@ -22,23 +23,20 @@ pub record Wrong : Type 0 where
 
 -- What a clause says of an outcome.
 abbrev pub Says : Clause → List ℕ → ℕ → Handed → Type 0
-Says outcome image source h = h ≡ searched dfSearch image source (lentFor image)
-Says times image source h = TimesAreLeast image source h
-Says list image source h = ListAgainstDijkstra image source (lentFor image) h
-Says images image source h = SameOnListedPages image source dfSearch (lentFor image) h
+Says outcome image source h = h ≡ ours image source
+Says times image source h = TimesAreLeast (asked image source) h
+Says list image source h = ListAgainstDijkstra (asked image source) (lentFor image) h
+Says images image source h = SameOnListedPages (asked image source) dfSearch (lentFor image) h
 
 abbrev pub Refused : Wrong → Type 0
 Refused w = Says (w .clause) (w .image) (w .source) (w .handed) → ⊥
 
--- What a search hands back on seven stations, with marks 0.
-abbrev back : Reply → List ℕ → List ℕ → List ℕ → Handed
-back reply t p l = handed reply (lent t p (replicate 7 0) l)
+-- What a search that accepts seven stations hands back, with marks 0.
+abbrev back : ℕ → ℕ → List ℕ → List ℕ → List ℕ → Handed
+back count reached t p l = handed (reply accepted count reached) (lent t p (replicate 7 0) l)
 
 abbrev wrong : List ℕ → ℕ → Handed → Clause → Wrong
 wrong image source h clause = record { image = image; source = source; handed = h; clause = clause }
-
-abbrev none : ℕ
-none = 4294967295
 
 -- C1's times and predecessors; those of a source that nobody has left; and those when page 0 has been worked through
 -- and nothing else: station 2 has 7 and not 3, and nobody has left station 4.
@@ -46,19 +44,19 @@ abbrev c1Times : List ℕ
 c1Times = 0 ∷ 4 ∷ 3 ∷ 6 ∷ 2 ∷ 8 ∷ 9 ∷ []
 
 abbrev c1Preds : List ℕ
-c1Preds = 65534 ∷ 0 ∷ 4 ∷ 2 ∷ 0 ∷ 4 ∷ 5 ∷ []
+c1Preds = sourceMark ∷ 0 ∷ 4 ∷ 2 ∷ 0 ∷ 4 ∷ 5 ∷ []
 
 abbrev aloneTimes : List ℕ
-aloneTimes = 0 ∷ replicate 6 none
+aloneTimes = 0 ∷ replicate 6 noTime
 
 abbrev alonePreds : List ℕ
-alonePreds = 65534 ∷ replicate 6 65535
+alonePreds = sourceMark ∷ replicate 6 noPred
 
 abbrev page0Times : List ℕ
-page0Times = 0 ∷ 4 ∷ 7 ∷ 10 ∷ 2 ∷ 13 ∷ none ∷ []
+page0Times = 0 ∷ 4 ∷ 7 ∷ 10 ∷ 2 ∷ 13 ∷ noTime ∷ []
 
 abbrev page0Preds : List ℕ
-page0Preds = 65534 ∷ 0 ∷ 1 ∷ 2 ∷ 0 ∷ 3 ∷ 65535 ∷ []
+page0Preds = sourceMark ∷ 0 ∷ 1 ∷ 2 ∷ 0 ∷ 3 ∷ noPred ∷ []
 
 -- A page list in a table of seven entries.
 abbrev listed : List ℕ → List ℕ
@@ -66,44 +64,44 @@ listed pages = take 7 (pages ++ replicate 7 9)
 
 -- "a search that refuses all maps (the table above says when)"
 abbrev pub refusesAll : Wrong
-refusesAll = wrong m7 0 (handed (refused 6 nowhere) (lentFor m7)) outcome
+refusesAll = wrong m7 0 (handed (reply (refused 6 nowhere) 0 0) (lentFor m7)) outcome
 
 -- "one that reports Dijkstra's own list (entry stations, demand 3)"
 abbrev pub dijkstrasOwnList : Wrong
-dijkstrasOwnList = wrong m7 0 (back (accepted 7 7) c1Times c1Preds (0 ∷ 1 ∷ 0 ∷ 0 ∷ 0 ∷ 1 ∷ 1 ∷ [])) list
+dijkstrasOwnList = wrong m7 0 (back 7 7 c1Times c1Preds (0 ∷ 1 ∷ 0 ∷ 0 ∷ 0 ∷ 1 ∷ 1 ∷ [])) list
 
 -- "a list with a page left out (two images, demand 3)": page 1 of the list 0 1 0
 abbrev pub pageLeftOut : Wrong
-pageLeftOut = wrong m7 0 (back (accepted 2 7) c1Times c1Preds (listed (0 ∷ 0 ∷ []))) images
+pageLeftOut = wrong m7 0 (back 2 7 c1Times c1Preds (listed (0 ∷ 0 ∷ []))) images
 
 -- "or with one that Dijkstra's lacks (same order, no others)": C4's list 1 and page 0 behind it
 abbrev pub pageThatDijkstrasLacks : Wrong
 pageThatDijkstrasLacks = wrong m7 6
-    (back (accepted 2 1) (replicate 6 none ++ (0 ∷ [])) (replicate 6 65535 ++ (65534 ∷ [])) (listed (1 ∷ 0 ∷ []))) list
+    (back 2 1 (replicate 6 noTime ++ (0 ∷ [])) (replicate 6 noPred ++ (sourceMark ∷ [])) (listed (1 ∷ 0 ∷ []))) list
 
 -- "a reached count other than the number of stations with a walk (demand 2)"
 abbrev pub otherReachedCount : Wrong
-otherReachedCount = wrong m7 0 (back (accepted 3 6) c1Times c1Preds (listed (0 ∷ 1 ∷ 0 ∷ []))) times
+otherReachedCount = wrong m7 0 (back 3 6 c1Times c1Preds (listed (0 ∷ 1 ∷ 0 ∷ []))) times
 
 -- "one fixed answer,": that of the map S, a page and a station
 abbrev pub fixedAnswer : Wrong
-fixedAnswer = wrong m7 0 (back (accepted 1 1) c1Times c1Preds (listed (0 ∷ 1 ∷ 0 ∷ []))) times
+fixedAnswer = wrong m7 0 (back 1 1 c1Times c1Preds (listed (0 ∷ 1 ∷ 0 ∷ []))) times
 
 -- "or tables untouched (demand 2)"
 abbrev pub tablesUntouched : Wrong
-tablesUntouched = wrong m7 0 (handed (accepted 3 7) (lentFor m7)) times
+tablesUntouched = wrong m7 0 (handed (reply accepted 3 7) (lentFor m7)) times
 
 -- "a search that says "none left" at its first choice (demand 2)"
 abbrev pub noneLeft : Wrong
-noneLeft = wrong m7 0 (back (accepted 0 1) aloneTimes alonePreds (listed [])) times
+noneLeft = wrong m7 0 (back 0 1 aloneTimes alonePreds (listed [])) times
 
 -- "one that works through the first page and then merely settles (demand 2)"
 abbrev pub merelySettles : Wrong
-merelySettles = wrong m7 0 (back (accepted 1 6) page0Times page0Preds (listed (0 ∷ []))) times
+merelySettles = wrong m7 0 (back 1 6 page0Times page0Preds (listed (0 ∷ []))) times
 
 -- And one that takes a bad page for a page without moves: C7's map.
 abbrev pub badPageWithoutMoves : Wrong
-badPageWithoutMoves = wrong m7Bad 0 (back (accepted 2 6) page0Times page0Preds (listed (0 ∷ 1 ∷ []))) times
+badPageWithoutMoves = wrong m7Bad 0 (back 2 6 page0Times page0Preds (listed (0 ∷ 1 ∷ []))) times
 
 unfoldable pub wrongVersions : List Wrong
 wrongVersions =

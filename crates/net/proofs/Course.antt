@@ -7,8 +7,9 @@ use mathlib.Core.Bool.{Bool, true, false, not, _||_}
 use Prim.Native.Nat.{ℕ, _+_}
 use lib.ListN.{getD, take}
 use lib.Dec.{eqb}
+use Rattle.common.specs.Pick.{pick}
 use Rattle.net.specs.Net.{Move, Page, good, bad, Frame, one}
-use Rattle.net.specs.Search.{State, refused, pick, timeOf, predOf, isFresh, withTables, settle, markFresh, start}
+use Rattle.net.specs.Search.{State, refused, timeOf, predOf, isFresh, withTables, settle, markFresh, start}
 use Rattle.net.specs.Search.{least, choose}
 use Rattle.net.specs.Search.{chooseOn, onChoice, iter, readFor, relax, relaxAll, visit, workTurn, workThrough}
 use Rattle.net.specs.Search.{dfVisit, noneOrLess, stepBy, searchBy, dfSearch}

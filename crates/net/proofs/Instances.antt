@@ -8,8 +8,9 @@ use mathlib.Core.Bool.{Bool, true, false}
 use Prim.Native.Nat.{ℕ, _+_, _*_, _≤_, _<_}
 use native.Mathlib.Nat.{mul-le-mul-right}
 use native.Mathlib.Omega.{arith}
+use Rattle.common.specs.Pick.{pick}
 use Rattle.net.specs.Net.{Move, Page, good, bad, Frame, movesOf, Goes, Walk, here, onward}
-use Rattle.net.specs.Search.{going, pick, dfSearch, reached}
+use Rattle.net.specs.Search.{going, dfSearch, reached}
 use Rattle.net.specs.Demands.{LeastTimes}
 use Rattle.net.proofs.Sound.{Sound}
 use Rattle.net.proofs.Basics.Tests.{below-or-last}

@@ -31,7 +31,8 @@ use Rattle.net.proofs.Searches.Run.{Reached, chosen-next, run-ends}
 use Rattle.net.proofs.Searches.Answer.{ended-least-times, least-times-fix}
 use Rattle.net.proofs.Searches.Together.{plain-reached, df-reached, Together, together, together-choose}
 use Rattle.net.proofs.Searches.Together.{chosen-least, chosen-rising}
-use Rattle.net.proofs.Searches.OneComparison.{visit-one, turns-one, loop-one, plain-visit-one, df-visit-one, run-one}
+use Rattle.net.proofs.Searches.OneComparison.{visit-one, turns-one, loop-one, plain-visit-one, df-visit-one}
+use Rattle.net.proofs.Searches.OneComparison.{run-one}
 use Rattle.net.proofs.PageLists.Often.{often-entered}
 use Rattle.net.proofs.Local.{search-local, plain-visit-local, df-visit-local}
 

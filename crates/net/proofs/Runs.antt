@@ -12,15 +12,17 @@ use native.Mathlib.Omega.{arith}
 use lib.ListN.{length}
 use lib.Dec.{ltb, eqb}
 use borrow.Author.Tests.{eqb-true, eqb-false}
+use Rattle.common.proofs.Cases.{le-or-lt}
+use Rattle.common.specs.Numbers.{sourceMark, noPred}
 use Rattle.net.specs.declared.Choice.{Choice}
 use Rattle.net.specs.declared.Choice.the-variants.{Station, Nobody}
 use Rattle.net.specs.Net.{Move, Page, good, bad, Frame, Goes}
-use Rattle.net.specs.Search.{State, going, refused, sourceMark, noPred, withPage, withHalt, timeOf, predOf}
+use Rattle.net.specs.Search.{State, going, refused, withPage, withHalt, timeOf, predOf}
 use Rattle.net.specs.Search.{reached, start, iter, onPage, relaxTo, relax, relaxAll, searchBy}
 use Rattle.net.specs.Run.{searchOf, unmarked, stopWaiting, turnLimit, waits, firstWaiting, firstOn, visitOf}
 use Rattle.net.specs.Run.{turnOf, pageWork, reference, stepRun, afterReferences, runOf, InHand}
 use Rattle.net.proofs.Sound.{Sound}
-use Rattle.net.proofs.Basics.Tests.{false-of, same-test, le-or-lt}
+use Rattle.net.proofs.Basics.Tests.{false-of, same-test}
 use Rattle.net.proofs.Basics.Iterate.{iter-last, iter-stop}
 use Rattle.net.proofs.Basics.Lists.{length-one-more}
 use Rattle.net.proofs.Relaxing.Relax.{Tables}

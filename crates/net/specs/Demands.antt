@@ -6,8 +6,8 @@ use mathlib.Core.Bool.{true, false}
 use Prim.Native.Nat.{ℕ, suc, _+_, _≤_, _<_}
 use lib.ListN.{length, getD}
 use lib.Dec.{ltb}
+use Rattle.common.specs.Numbers.{sourceMark, noPred}
 use Rattle.net.specs.Net.{Page, bad, Frame, isGood, Goes, Walk, count, timesIn, entryStations, onePageReads}
-use Rattle.net.specs.Search.{sourceMark, noPred}
 
 module _ (F : Frame) (page : ℕ → Page) (source : ℕ) where
   -- The predecessors lead from v to the source in k steps, along a walk of cost c.

@@ -4,20 +4,11 @@ use mathlib.Core.Bool.{Bool, true, false, not, _&&_, _||_}
 use Prim.Native.Nat.{ℕ, zero, suc, _+_, _*_, _/_, _%_}
 use lib.ListN.{getD, set, replicate}
 use lib.Dec.{ltb, leb, eqb}
+use Rattle.common.specs.Pick.{pick}
+use Rattle.common.specs.Numbers.{sourceMark, noPred}
 use Rattle.net.specs.declared.Choice.{Choice}
 use Rattle.net.specs.declared.Choice.the-variants.{Station, Nobody}
 use Rattle.net.specs.Net.{Move, Page, good, bad, Frame, count}
-
-abbrev pub pick : {A : Type 0} → Bool → A → A → A
-pick true a b = a
-pick false a b = b
-
--- The predecessor of the source, and that of a station without one.
-abbrev pub sourceMark : ℕ
-sourceMark = 65534
-
-abbrev pub noPred : ℕ
-noPred = 65535
 
 -- A search goes on, or a bad page ended it: the refusal's number, the page and the offset.
 pub data Halt : Type 0 where

@@ -4,15 +4,17 @@ use mathlib.Core.Path.{_≡_, refl}
 use mathlib.Core.Bool.{Bool, true, false, not, _||_}
 use mathlib.Core.List.{List, [], _∷_}
 use Prim.Native.Nat.{ℕ, zero, suc, _+_, _*_, _≤_, _<_}
+use mathlib.Core.Logic.{dite}
+use native.Mathlib.Decide.{decLt}
 use native.Mathlib.Omega.{arith}
 use lib.Dec.{eqb, ltb}
 use lib.ListN.{length, getD, drop, length-drop}
 use lib.Seq.{length-take-le}
-use borrow.Author.Tests.{ltb-false, ltb-true, eqb-true, eqb-false, not-false}
-use Rattle.page.specs.Bytes.{pick}
+use borrow.Author.Tests.{ltb-false, lt-ltb, le-ltb, eqb-true, eqb-false, not-false}
+use Rattle.common.proofs.Cases.{never}
+use Rattle.common.specs.Pick.{pick}
 use Rattle.page.specs.Image.{Outcome, accepted, refused, Place, nowhere, at-station}
 use Rattle.page.specs.Image.{stationCount, pageCount, directoryOf, pageBytes, firstNotBelow, headingCheck}
-use Rattle.page.proofs.Judging.{never}
 
 pub record Formed (image : List ℕ) : Type 0 where
   pub heading : 4 ≤ length image
@@ -59,16 +61,15 @@ in-range n limit e = by-zero (eqb n 0) refl e
 below-before : (limit : ℕ) (ds : List ℕ) (i : ℕ) → i < firstNotBelow limit ds → getD ds i 0 < limit
 unfolding firstNotBelow
 below-before limit [] i h = absurd (omega arith)
-below-before limit (d ∷ ds) i h = by-test (ltb d limit) refl h (below-before limit ds)
+below-before limit (d ∷ ds) i h =
+    dite (decLt d limit)
+    (λ l. at-index i (simp (lt-ltb d limit l) at h) l (below-before limit ds))
+    (λ n. let l : limit ≤ d = omega arith in absurd (omega (arith, simp (le-ltb d limit l) at h)))
   where
-    by-test : (b : Bool) → ltb d limit ≡ b → i < firstNotBelow limit (d ∷ ds)
-        → ((j : ℕ) → j < firstNotBelow limit ds → getD ds j 0 < limit) → getD (d ∷ ds) i 0 < limit
-    by-test true e k later = at-index i (simp e at k)
-      where
-        at-index : (j : ℕ) → j < suc (firstNotBelow limit ds) → getD (d ∷ ds) j 0 < limit
-        at-index zero q = ltb-true d limit e
-        at-index (suc j) q = later j (omega arith)
-    by-test false e k later = absurd (omega (arith, simp e at k))
+    at-index : (j : ℕ) → j < suc (firstNotBelow limit ds) → d < limit
+        → ((k : ℕ) → k < firstNotBelow limit ds → getD ds k 0 < limit) → getD (d ∷ ds) j 0 < limit
+    at-index zero q l later = l
+    at-index (suc j) q l later = later j (omega arith)
 
 module _ (image : List ℕ) where
   abbrev N : ℕ

@@ -6,17 +6,19 @@ use mathlib.Core.List.{List}
 use Prim.Native.Nat.{ℕ, zero, suc, _+_, _*_, _≤_}
 use native.Mathlib.Omega.{arith}
 use lib.Dec.{ltb, eqb}
-use lib.ListN.{length, drop, length-take}
+use lib.ListN.{length}
+use Rattle.common.specs.Pick.{pick}
 use Rattle.page.specs.declared.Move.{Move}
 use Rattle.page.specs.declared.Command.{Command}
 use Rattle.page.specs.declared.Command.the-variants.{End, Station, MoveTo, Fault}
-use Rattle.page.specs.Bytes.{pick}
 use Rattle.page.specs.Image.{Outcome, accepted, refused, nowhere, at-station, on-page, headingCheck}
 use Rattle.page.specs.Image.{stationCount, pageCount, directoryOf, pageBytes, firstNotBelow}
 use Rattle.page.specs.Reading.{Reading, good, bad, withMove, withStation}
 use Rattle.page.specs.Reading.{widthOf, nextOn, judgedAt, readFrom, readPage}
 use Rattle.page.specs.Check.{readingOf, pageOutcome, pagesFrom, afterHeading, wholeCheck}
-use Rattle.page.proofs.Lengths.{Within, judged-within}
+use Rattle.page.proofs.Parts.{page-short}
+use Rattle.page.proofs.Reading.Lengths.{stands}
+use Rattle.page.proofs.Reading.Judging.{judged-station, judged-move}
 
 -- A reading whose fault, if it has one, stands at an offset up to a limit.
 abbrev pub FaultBy : ℕ → Reading → Type 0
@@ -36,26 +38,25 @@ module _ (directory : List ℕ) (p : ℕ) (page : List ℕ) where
   after-move m (bad number offset) k = k
 
   command-in : (f at after least : ℕ) → at ≤ length page → (x : Command)
-      → judgedAt page at (length directory) (nextOn directory p after) after least ≡ x → Within at (length page) x
+      → judgedAt page at (length directory) (nextOn directory p after) after least ≡ x
       → ((i a l : ℕ) → i ≤ length page → In (readFrom directory p page f i a l))
       → In (readFrom directory p page (suc f) at after least)
   unfolding readFrom
-  command-in f at after least h End e w ih = rw (e, readFrom) tt
-  command-in f at after least h (Station v) e w ih =
-      let following = readFrom directory p page f (at + widthOf (Station v)) (v + 1) 0 in
-      rw (e, readFrom) (after-station v following (ih (at + widthOf (Station v)) (v + 1) 0 w))
-  command-in f at after least h (MoveTo m) e w ih =
-      let following = readFrom directory p page f (at + widthOf (MoveTo m)) after (m .target + 1) in
-      rw (e, readFrom) (after-move m following (ih (at + widthOf (MoveTo m)) after (m .target + 1) w))
-  command-in f at after least h (Fault number) e w ih = rw (e, readFrom) h
+  command-in f at after least h End e ih = rw (e, readFrom) tt
+  command-in f at after least h (Station v) e ih =
+      let ends = stands page at (judged-station page at _ _ _ _ v e .0) .0 in
+      rw (e, readFrom) (after-station v (readFrom directory p page f (at + widthOf (Station v)) (v + 1) 0)
+      (ih (at + widthOf (Station v)) (v + 1) 0 ends))
+  command-in f at after least h (MoveTo m) e ih =
+      let ends = stands page at (judged-move page at _ _ _ _ m e .0) .0 in
+      rw (e, readFrom) (after-move m (readFrom directory p page f (at + widthOf (MoveTo m)) after (m .target + 1))
+      (ih (at + widthOf (MoveTo m)) after (m .target + 1) ends))
+  command-in f at after least h (Fault number) e ih = rw (e, readFrom) h
 
   read-in : (f at after least : ℕ) → at ≤ length page → In (readFrom directory p page f at after least)
   unfolding readFrom
   read-in zero at after least h = h
-  read-in (suc f) at after least h =
-      let due = nextOn directory p after in
-      command-in f at after least h (judgedAt page at (length directory) due after least) refl
-      (judged-within page at (length directory) due after least) (read-in f)
+  read-in (suc f) at after least h = command-in f at after least h _ refl (read-in f)
 
   page-in : In (readPage directory p page)
   unfolding readPage
@@ -78,11 +79,9 @@ module _ (image : List ℕ) where
   lower-limit n m (bad number offset) h k = omega arith
 
   pub reading-by-256 : (p : ℕ) → FaultBy 256 (readingOf image p)
-  unfolding readingOf pageBytes
+  unfolding readingOf
   reading-by-256 p =
-      let from = 4 + stationCount image + 256 * p in
-      let short : length (pageBytes image p) ≤ 256 = omega (arith, length-take 256 (drop from image)) in
-      lower-limit (length (pageBytes image p)) 256 (readingOf image p) short
+      lower-limit (length (pageBytes image p)) 256 (readingOf image p) (page-short image p)
       (page-in (directoryOf image) p (pageBytes image p))
 
   pub heading-by-256 : PlaceBy256 (headingCheck image)

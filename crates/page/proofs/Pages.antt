@@ -5,14 +5,16 @@ use mathlib.Core.List.{List}
 use Prim.Native.Nat.{ℕ, suc, _+_, _-_, _≤_, _<_}
 use native.Mathlib.Omega.{arith}
 use native.Mathlib.Numerals.{add-one}
+use Rattle.common.proofs.Cases.{never}
 use Rattle.page.specs.declared.Checked.{Checked}
+use Rattle.page.specs.declared.Checked.the-variants.{Refused}
+use Rattle.page.specs.declared.Refusal.{Refusal}
 use Rattle.page.specs.declared.Verdict.{Verdict}
 use Rattle.page.specs.declared.Verdict.the-variants.{Good, Bad}
-use Rattle.page.specs.Image.{Outcome, accepted, refused, Place, on-page, headingCheck, meaning}
-use Rattle.page.specs.Image.{pageCount, directoryOf, pageBytes}
-use Rattle.page.specs.Reading.{Reading, good, bad, readPage}
+use Rattle.page.specs.Image.{Outcome, accepted, refused, on-page, headingCheck, outcomeOf}
+use Rattle.page.specs.Image.{pageCount}
+use Rattle.page.specs.Reading.{Reading, good, bad}
 use Rattle.page.specs.Check.{readingOf, verdictOf, pageOutcome, pagesFrom, afterHeading, wholeCheck}
-use Rattle.page.proofs.Judging.{never}
 
 module _ (image : List ℕ) (p : ℕ) where
   good-passes : (r : Reading) (following : Outcome) → verdictOf r ≡ Good → pageOutcome p r following ≡ following
@@ -45,12 +47,6 @@ module _ (image : List ℕ) (p : ℕ) where
   unfolding pagesFrom
   pages-end pages h = let e : pages - p ≡ 0 = omega arith in rw e
 
--- the reader's answer on the parts of an image
-pub verdict-is : (image directory page : List ℕ) (p : ℕ) (x y : Verdict) → directory ≡ directoryOf image
-    → page ≡ pageBytes image p → x ≡ verdictOf (readPage directory p page) → x ≡ y → verdictOf (readingOf image p) ≡ y
-unfolding readingOf
-verdict-is image directory page p x y d b e q = rw (← d, ← b) (sym e ∙ q)
-
 -- The whole check by what the heading's check answers.
 module _ (image : List ℕ) where
   pub whole-pages : (x : Outcome) → headingCheck image ≡ accepted → x ≡ pagesFrom image (pageCount image) 0
@@ -58,9 +54,9 @@ module _ (image : List ℕ) where
   unfolding wholeCheck
   whole-pages x e q = q ∙ sym (ap (λ o. afterHeading o (pagesFrom image (pageCount image) 0)) e)
 
-  pub whole-refused : (x y : Checked) (number : ℕ) (place : Place) → meaning x ≡ headingCheck image → x ≡ y
-      → meaning y ≡ refused number place → meaning x ≡ wholeCheck image
+  pub whole-refused : (x : Checked) (refusal : Refusal) → outcomeOf x ≡ headingCheck image → x ≡ Refused refusal
+      → outcomeOf (Refused refusal) ≡ wholeCheck image
   unfolding wholeCheck
-  whole-refused x y number place e q r =
-      let f : meaning x ≡ refused number place = ap meaning q ∙ r in
-      f ∙ sym (ap (λ o. afterHeading o (pagesFrom image (pageCount image) 0)) (sym e ∙ f))
+  whole-refused x refusal e q =
+      let heading = sym e ∙ ap outcomeOf q in
+      sym (ap (λ o. afterHeading o (pagesFrom image (pageCount image) 0)) heading)

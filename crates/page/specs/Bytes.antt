@@ -4,10 +4,7 @@ use mathlib.Core.List.{List, [], _∷_}
 use Prim.Native.Nat.{ℕ, _+_, _*_, _<_}
 use lib.ListN.{getD, take, drop}
 use lib.Dec.{eqb}
-
-abbrev pub pick : {A : Type 0} → Bool → A → A → A
-pick true a b = a
-pick false a b = b
+use Rattle.common.specs.Pick.{pick}
 
 -- The u16 at an offset, little-endian.
 abbrev pub word : List ℕ → ℕ → ℕ

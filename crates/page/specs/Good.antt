@@ -4,8 +4,8 @@ use mathlib.Core.List.{List, [], _∷_, _++_, map}
 use Prim.Native.Nat.{ℕ, zero, suc, _+_, _/_, _%_, _≤_, _<_}
 use lib.ListN.{length, replicate}
 use lib.Dec.{eqb}
+use Rattle.common.specs.Pick.{pick}
 use Rattle.page.specs.declared.Move.{Move}
-use Rattle.page.specs.Bytes.{pick}
 use Rattle.page.specs.Reading.{Leaving}
 
 -- The stations that the directory gives page p, rising; the directory's first entry is that of station i.

@@ -5,9 +5,12 @@ use mathlib.Core.List.{List, [], _∷_}
 use Prim.Native.Nat.{ℕ, zero, suc, _+_, _*_}
 use lib.ListN.{length, take}
 use lib.Dec.{ltb, eqb}
+use Rattle.common.specs.Pick.{pick}
 use Rattle.page.specs.declared.Checked.{Checked}
-use Rattle.page.specs.declared.Checked.the-variants.{Whole, Refused, NoPage, BadPage}
-use Rattle.page.specs.Bytes.{pick, word, part}
+use Rattle.page.specs.declared.Checked.the-variants.{Whole, Refused}
+use Rattle.page.specs.declared.Place as declared
+use Rattle.page.specs.declared.Place.the-variants.{Nowhere, AtStation, OnPage}
+use Rattle.page.specs.Bytes.{word, part}
 
 -- "Heading: u16 station count N, u16 page count P. Directory: N bytes. P pages of 256 bytes."
 abbrev pub stationCount : List ℕ → ℕ
@@ -22,7 +25,8 @@ directoryOf image = part image 4 (stationCount image)
 unfoldable pub pageBytes : List ℕ → ℕ → List ℕ
 pageBytes image p = part image (4 + stationCount image + 256 * p) 256
 
--- What a call answers: accepted, or refused with the refusal's number and its place.
+-- What a check says: accepted, or refused with the refusal's number and the place that it names. "8 to 14 add page and
+-- offset, 5 its station, the others nothing."
 pub data Place : Type 0 where
   nowhere : Place
   at-station : ℕ → Place
@@ -48,12 +52,15 @@ headingCheck image =
     (refused 5 (at-station (firstNotBelow (pageCount image) (directoryOf image))))
     accepted))))
 
--- What the checks' answer means in the paper's numbers.
-abbrev pub meaning : Checked → Outcome
-meaning Whole = accepted
-meaning (Refused number) = refused number nowhere
-meaning (NoPage station) = refused 5 (at-station station)
-meaning (BadPage number page offset) = refused number (on-page page offset)
+-- What the checks' answer says in the paper's numbers.
+abbrev pub placeOf : declared.Place → Place
+placeOf Nowhere = nowhere
+placeOf (AtStation station) = at-station station
+placeOf (OnPage page offset) = on-page page offset
+
+abbrev pub outcomeOf : Checked → Outcome
+outcomeOf Whole = accepted
+outcomeOf (Refused refusal) = refused (refusal .number) (placeOf (refusal .place))
 
 -- "Two images agree on heading, directory or a page if the bytes there are equal, as far as the images reach."
 abbrev pub AgreeOnHeading : List ℕ → List ℕ → Type 0

@@ -2,5 +2,5 @@ pub mod Bytes
 pub mod Image
 pub mod Reading
 pub mod Check
-pub mod Walk
 pub mod Good
+pub mod Laying

@@ -4,10 +4,11 @@ use mathlib.Core.List.{List, [], _∷_}
 use Prim.Native.Nat.{ℕ, zero, suc, _+_}
 use lib.ListN.{length, getD, drop}
 use lib.Dec.{ltb, leb, eqb}
+use Rattle.common.specs.Pick.{pick}
 use Rattle.page.specs.declared.Move.{Move}
 use Rattle.page.specs.declared.Command.{Command}
 use Rattle.page.specs.declared.Command.the-variants.{End, Station, MoveTo, Fault}
-use Rattle.page.specs.Bytes.{pick, word, allZero}
+use Rattle.page.specs.Bytes.{word, allZero}
 
 -- "The lengths 1, 3, 5 stand in a constant table."
 abbrev pub lengthOf : ℕ → ℕ

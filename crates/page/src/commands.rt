@@ -1,15 +1,13 @@
-// The commands of a page: what stands at an offset, and the walk over a station's moves.
+// The commands of a page: what stands at an offset, and how long it is.
 
 ghost use mathlib.Core.Path.{_≡_};
 ghost use Prim.Native.Nat.{_+_, _<_};
 ghost use lib.Dec.{leb};
 ghost use lib.ListN.{length};
 ghost use Rattle.page.specs.Reading.{lengthOf, commandAt};
-ghost use Rattle.page.specs.Walk.{movesAt, stepMoves, StepsOn};
 use super::Command;
 use super::Move;
-use super::MoveStep;
-use super::bytes::word_at;
+use super::bytes::word_within;
 
 // `00` ends a page.
 const END: u8 = 0;
@@ -51,39 +49,20 @@ pub fn command_at(page: &[u8], at: usize) -> Command
     let code = page[at];
     if code == MOVE {
         if fits(page, at, MOVE) {
-            let target = word_at(page, at + 1);
-            let time = word_at(page, at + 3);
+            let target = word_within(page, at + 1);
+            let time = word_within(page, at + 3);
             return Command::MoveTo(Move { target, time });
         }
         return Command::Fault(9);
     }
     if code == STATION {
         if fits(page, at, STATION) {
-            return Command::Station(word_at(page, at + 1));
+            return Command::Station(word_within(page, at + 1));
         }
         return Command::Fault(9);
     }
     if code == END {
-        if fits(page, at, END) {
-            return Command::End;
-        }
-        return Command::Fault(9);
+        return Command::End;
     }
     Command::Fault(8)
-}
-
-// The move at an offset and the offset after it, or that the station has no more.
-pub fn next_move(page: &[u8], at: usize) -> MoveStep
-    ensures value { λ r. ⌜ movesAt (now (page .entry)) at ≡ stepMoves (now (page .entry)) r ⌝ }
-    ensures onward { λ r. ⌜ StepsOn at (length (now (page .entry))) r ⌝ }
-{
-    match command_at(page, at) {
-        Command::MoveTo(step) => MoveStep::Next {
-            step,
-            next: at + length_of(MOVE),
-        },
-        Command::End => MoveStep::NoMore,
-        Command::Station(_) => MoveStep::NoMore,
-        Command::Fault(_) => MoveStep::NoMore,
-    }
 }

@@ -1,12 +1,17 @@
 // The parts of an image, and refusals 1 to 5.
 
 ghost use mathlib.Core.Path.{_≡_};
-ghost use Prim.Native.Nat.{_<_};
-ghost use Rattle.page.specs.Image.{stationCount, pageCount, directoryOf, pageBytes, headingCheck, meaning};
+ghost use Prim.Native.Nat.{_≤_, _<_};
+ghost use mathlib.Core.Bool.{_||_};
+ghost use lib.Dec.{eqb, ltb};
+ghost use lib.ListN.{length};
+ghost use Rattle.page.specs.Image.{stationCount, pageCount, directoryOf, pageBytes, firstNotBelow};
+ghost use Rattle.page.specs.Image.{refused, headingCheck, placeOf, outcomeOf};
 use super::Checked;
+use super::Place;
+use super::Refusal;
 use super::bytes::part_of;
 use super::bytes::word_at;
-use super::directory::first_not_below;
 
 pub fn station_count(image: &[u8]) -> usize
     ensures value { λ r. ⌜ r ≡ stationCount (now (image .entry)) ⌝ }
@@ -30,38 +35,60 @@ pub fn directory_of(image: &[u8]) -> &[u8]
 
 pub fn page_of(image: &[u8], p: u8) -> &[u8]
     ensures part { λ r. ⌜ now r ≡ pageBytes (now (image .entry)) p ⌝ }
+    ensures short { λ r. ⌜ length (now r) ≤ 256 ⌝ }
 {
     let from = 4 + station_count(image) + 256 * (p as usize);
     part_of(image, from, 256)
 }
 
+// The lowest station whose byte is not below a limit, or the number of stations.
+fn first_not_below(directory: &[u8], limit: usize) -> usize
+    ensures value { λ r. ⌜ r ≡ firstNotBelow limit (now (directory .entry)) ⌝ }
+{
+    let mut i: usize = 0;
+    while i < directory.len() {
+        if limit <= directory[i] as usize {
+            return i;
+        }
+        i += 1;
+    }
+    i
+}
+
+pub fn refuse(number: u8, place: Place) -> Checked
+    ensures outcome { λ r. ⌜ outcomeOf r ≡ refused number (placeOf place) ⌝ }
+{
+    Checked::Refused(Refusal { number, place })
+}
+
+// Whether a count is 0 or above its limit.
+fn outside(count: usize, limit: usize) -> bool
+    ensures value { λ r. ⌜ r ≡ (eqb count 0 || ltb limit count) ⌝ }
+{
+    count == 0 || limit < count
+}
+
 // Refusals 1 to 5, in this order.
 pub fn check_heading(image: &[u8]) -> Checked
-    ensures outcome { λ r. ⌜ meaning r ≡ headingCheck (now (image .entry)) ⌝ }
+    ensures outcome { λ r. ⌜ outcomeOf r ≡ headingCheck (now (image .entry)) ⌝ }
 {
     if image.len() < 4 {
-        return Checked::Refused(1);
+        return refuse(1, Place::Nowhere);
     }
     let stations = station_count(image);
-    if stations == 0 {
-        return Checked::Refused(2);
-    }
-    if 2048 < stations {
-        return Checked::Refused(2);
+    if outside(stations, 2048) {
+        return refuse(2, Place::Nowhere);
     }
     let pages = page_count(image);
-    if pages == 0 {
-        return Checked::Refused(3);
-    }
-    if 240 < pages {
-        return Checked::Refused(3);
+    if outside(pages, 240) {
+        return refuse(3, Place::Nowhere);
     }
     if image.len() != 4 + stations + 256 * pages {
-        return Checked::Refused(4);
+        return refuse(4, Place::Nowhere);
     }
     let station = first_not_below(directory_of(image), pages);
     if station < stations {
-        return Checked::NoPage(station as u16);
+        return refuse(5, Place::AtStation(station as u16));
     }
     Checked::Whole
 }

@@ -1,9 +1,8 @@
 // The map image (01, "Map image"): heading, directory, page reader and whole check. This is the only crate that looks
-// at the bytes of a page; what lies above it works with a page's content.
+// at the bytes of a page; what lies above it works with a page's content, laid out as rows of moves.
 
 pub mod bytes;
 pub mod commands;
-pub mod directory;
 pub mod image;
 pub mod reader;
 pub mod whole;
@@ -28,19 +27,21 @@ pub enum Verdict {
     Bad { number: u8, offset: usize },
 }
 
-// What a check of an image found: all good, or a refusal with its place.
-pub enum Checked {
-    Whole,
-    // 1 to 4: no place.
-    Refused(u8),
-    // 5: the lowest station whose directory byte is not below the page count.
-    NoPage(u16),
-    // 8 to 14.
-    BadPage { number: u8, page: u8, offset: usize },
+// The place that a refusal names.
+pub enum Place {
+    Nowhere,
+    AtStation(u16),
+    OnPage { page: u8, offset: usize },
 }
 
-// The next move of a station and where the one after it stands, or that there is none.
-pub enum MoveStep {
-    Next { step: Move, next: usize },
-    NoMore,
+// A refusal: document 01's number, and its place.
+pub struct Refusal {
+    pub number: u8,
+    pub place: Place,
+}
+
+// What a check of an image found: all good, or its first refusal.
+pub enum Checked {
+    Whole,
+    Refused(Refusal),
 }

@@ -1,11 +1,14 @@
 // The answers of the page crate in one shape, and their text.
 
+use layout::moves::LAYOUT;
 use libc::STDOUT_FILENO;
 use page::Checked;
+use page::Place;
+use page::Refusal;
 use page::Verdict;
 use page::image::page_of;
 use page::reader::read_page;
-ghost use Rattle.page.specs.Walk.{Threaded};
+ghost use Rattle.layout.specs.Places.{Placed};
 
 // A part of an answer that the refusal doesn't name.
 const UNNAMED: usize = 65535;
@@ -36,31 +39,36 @@ fn plain(number: usize) -> Answer {
     }
 }
 
-// What a check of an image found.
-fn of_check(checked: Checked) -> Answer {
-    match checked {
-        Checked::Whole => plain(0),
-        Checked::Refused(number) => plain(wide(number)),
-        Checked::NoPage(station) => {
+// A refusal with the place that it names.
+fn of_refusal(refusal: Refusal) -> Answer {
+    let number = wide(refusal.number);
+    let place = refusal.place;
+    match place {
+        Place::Nowhere => plain(number),
+        Place::AtStation(station) => {
             Answer {
-                number: 5,
+                number,
                 station: wide_station(station),
                 page: UNNAMED,
                 offset: UNNAMED,
             }
         }
-        Checked::BadPage {
-            number,
-            page,
-            offset,
-        } => {
+        Place::OnPage { page, offset } => {
             Answer {
-                number: wide(number),
+                number,
                 station: UNNAMED,
                 page: wide(page),
                 offset,
             }
         }
+    }
+}
+
+// What a check of an image found.
+fn of_check(checked: Checked) -> Answer {
+    match checked {
+        Checked::Whole => plain(0),
+        Checked::Refused(refusal) => of_refusal(refusal),
     }
 }
 
@@ -70,11 +78,11 @@ pub fn of_image(image: &[u8]) -> Answer {
 }
 
 // What the page reader answers for a page of an image.
-pub fn of_page(image: &[u8], directory: &[u8], first: &[u16], next: &[u16], p: u8) -> Answer
-    requires { ⌜ Threaded (now directory) (now first) (now next) ⌝ }
+pub fn of_page(image: &[u8], directory: &[u8], places: &[u16], p: u8) -> Answer
+    requires { ⌜ Placed (now directory) (now places) ⌝ }
 {
-    let mut starts = [0usize; 2048];
-    match read_page(directory, first, next, p, page_of(image, p), &mut starts) {
+    let mut layout = [0u32; LAYOUT];
+    match read_page(directory, places, p, page_of(image, p), &mut layout) {
         Verdict::Good => plain(0),
         Verdict::Bad { number, offset } => {
             Answer {

@@ -12,29 +12,30 @@ mod runs;
 use answers::of_image;
 use answers::of_page;
 use answers::print;
+use layout::places::PLACES;
+use layout::places::place;
 use libc::STDIN_FILENO;
 use libc::STDOUT_FILENO;
 use page::Checked;
 use page::bytes::byte_at;
 use page::bytes::word_at;
-use page::directory::thread;
 use page::image::check_heading;
 use page::image::directory_of;
 use page::image::page_count;
 use runs::begun;
 use runs::ended;
 use runs::extended;
-ghost use Rattle.page.specs.Walk.{Threaded};
+ghost use Rattle.layout.specs.Places.{Placed};
 
 // Prints the page reader's answers for the pages up to the last one.
-fn print_readings(image: &[u8], directory: &[u8], first: &[u16], next: &[u16], last: u8)
-    requires { ⌜ Threaded (now directory) (now first) (now next) ⌝ }
+fn print_readings(image: &[u8], directory: &[u8], places: &[u16], last: u8)
+    requires { ⌜ Placed (now directory) (now places) ⌝ }
 {
     let mut p: u8 = 0;
-    let mut run = begun(p, of_page(image, directory, first, next, p));
+    let mut run = begun(p, of_page(image, directory, places, p));
     while p < last {
         p += 1;
-        run = extended(run, p, of_page(image, directory, first, next, p));
+        run = extended(run, p, of_page(image, directory, places, p));
     }
     ended(run);
 }
@@ -52,13 +53,12 @@ fn last_page(image: &[u8]) -> u8 {
 }
 
 fn print_pages(image: &[u8]) {
-    let mut first = [0u16; 256];
-    let mut next = [0u16; 2048];
+    let mut places = [0u16; PLACES];
     let directory = directory_of(image);
     io::write_all(STDOUT_FILENO, b"  pages: ");
     if directory.len() <= 2048 {
-        thread(directory, &mut first, &mut next);
-        print_readings(image, directory, &first, &next, last_page(image));
+        place(directory, &mut places);
+        print_readings(image, directory, &places, last_page(image));
     }
 }
 
@@ -70,12 +70,6 @@ fn print_answers(image: &[u8]) {
     match check_heading(image) {
         Checked::Whole => print_pages(image),
         Checked::Refused(_) => {}
-        Checked::NoPage(_) => {}
-        Checked::BadPage {
-            number,
-            page,
-            offset,
-        } => {}
     }
 }
 

@@ -1,4 +1,5 @@
-pub mod Compare
-pub mod Rising
-pub mod Root
-pub mod Queue
+-- The laws that callers cite (Keys, Least, Groups), and the scan of `least_between`.
+pub mod Keys
+pub mod Least
+pub mod Groups
+pub mod Scan

@@ -1,84 +1,91 @@
-// The next station of a search: of the unsettled stations that have a time, the one of least time, then lowest number
-// (01, "The two searches"). A tournament tree over packed keys, in an array that the caller lends, answers it from its
-// root, and changing one station's key takes at most eleven comparisons. A fresh `[NOBODY; 4096]` is the queue in which
-// nobody waits. What a search has to know after a change of its tables is in proofs/Queue.antt.
+// The queue of pages: which page has the least waiting key, in an array that the caller lends. Entries 0 to 255 are the
+// leaves, one for each page: the least key by which a station of the page waits. Entry 256 + g is group g, the least of
+// the 16 leaves from 16 * g on. A new `[NOBODY; QUEUE]` is the queue in which nobody waits. What a search cites of the
+// queue is in proofs/Groups.antt, of the least of some keys in proofs/Least.antt, of a key's parts in proofs/Keys.antt.
 ghost use mathlib.Core.Path.{_≡_};
-ghost use mathlib.Core.List.{List};
-ghost use Prim.Native.Nat.{ℕ, _+_, _-_, _*_, _/_, _%_, _<_, min};
-ghost use Rattle.queue.specs.Queue.{chosen, keyOf, named, Tree, Put, Queue};
-use net::Choice;
+ghost use Prim.Native.Nat.{_-_, _<_, _≤_, min};
+ghost use lib.ListN.{length, getD, take, drop};
+ghost use Rattle.queue.specs.Keys.{leastIn};
+ghost use Rattle.queue.specs.Queue.{Groups, Put};
+use common::NOBODY;
 
-// No time: the entry of a station in the table of times until it has one.
-const NONE: u32 = 4294967295;
+// The leaves, and how many of them make a group; there are as many groups. And the entries in all.
+const LEAVES: usize = 256;
 
-// The key of nobody, above the key of every station.
-pub const NOBODY: u64 = 18446744073709551615;
+const GROUP: usize = 16;
 
-// As many leaves as a map can have stations; leaf v is entry LEAVES + v of the tree, and the root is entry 1.
-const LEAVES: usize = 2048;
+pub const QUEUE: usize = 272;
 
-// The key of station v: its time, then its number, where it has a time and is not settled.
-pub fn key(time: u32, mark: u8, v: usize) -> u64
-    requires station { ⌜ v < 2048 ⌝ }
-    ensures value { λ r. ⌜ r ≡ keyOf time mark v ⌝ }
-{
-    if mark % 2 == 1 {
-        return NOBODY;
-    }
-    if time < NONE {
-        return (time as u64) * (LEAVES as u64) + (v as u64);
-    }
-    NOBODY
-}
-
+// Compiled to a conditional move: relaxing and choosing have no branch that a processor could guess wrongly.
 pub fn lesser(a: u64, b: u64) -> u64
     ensures value { λ r. ⌜ r ≡ min a b ⌝ }
 {
     if b < a { b } else { a }
 }
 
-// The other child of the node above node i.
-fn sibling(i: usize) -> usize
-    ensures value { λ r. ⌜ r ≡ 2 * (i / 2) + 1 - i % 2 ⌝ }
+// The least of four keys.
+fn least_of(a: u64, b: u64, c: u64, d: u64) -> u64
+    ensures value { λ r. ⌜ r ≡ min (min a b) (min c d) ⌝ }
 {
-    2 * (i / 2) + 1 - i % 2
+    lesser(lesser(a, b), lesser(c, d))
 }
 
-// The key of station v becomes `key`. The nodes above it follow, up to the first that stays as it is; `least` is what
-// node i holds, so that a turn waits for no node but the sibling.
-pub fn put(tree: &mut [u64], v: usize, key: u64)
-    requires station { ⌜ v < 2048 ⌝ }
-    requires nodes { ⌜ Tree (now tree) ⌝ }
-    ensures changed { λ r. ⌜ Put (now (tree .entry)) v key (now (tree .exit)) ⌝ }
+// The least of the keys from `lo` up to `hi`. Four accumulators make four short chains of comparisons of one long one.
+// They change places at each turn because compilers make vector code of the loop otherwise, which is slower at the
+// length of a page.
+pub fn least_between(keys: &[u64], lo: usize, hi: usize) -> u64
+    requires ordered { ⌜ lo ≤ hi ⌝ }
+    requires inside { ⌜ hi ≤ length (now keys) ⌝ }
+    ensures least { λ r. ⌜ r ≡ leastIn (take (hi - lo) (drop lo (now (keys .entry)))) ⌝ }
 {
-    let mut i = LEAVES + v;
-    let mut least = key;
-    tree[i] = key;
-    while 1 < i {
-        least = lesser(least, tree[sibling(i)]);
-        i = i / 2;
-        if tree[i] == least {
-            return;
-        }
-        tree[i] = least;
+    let mut a = NOBODY;
+    let mut b = NOBODY;
+    let mut c = NOBODY;
+    let mut d = NOBODY;
+    let mut i = lo;
+    while i + 3 < hi {
+        let first = lesser(a, keys[i]);
+        a = lesser(b, keys[i + 1]);
+        b = lesser(c, keys[i + 2]);
+        c = lesser(d, keys[i + 3]);
+        d = first;
+        i += 4;
     }
-}
-
-// The station that a key names.
-pub fn station_of(key: u64) -> Choice
-    ensures value { λ r. ⌜ r ≡ named key ⌝ }
-{
-    if key == NOBODY {
-        Choice::Nobody
-    } else {
-        Choice::Station((key % (LEAVES as u64)) as usize)
+    let mut least = least_of(a, b, c, d);
+    while i < hi {
+        least = lesser(least, keys[i]);
+        i += 1;
     }
+    least
 }
 
-// The station to settle next, of any tables whose queue the tree is.
-pub fn next(tree: &[u64]) -> Choice
-    requires nodes { ⌜ Tree (now tree) ⌝ }
-    ensures first { λ r. ⌜ ((times marks : List ℕ) → Queue (now (tree .entry)) times marks → r ≡ chosen times marks) ⌝ }
+// The leaf of page p becomes the lesser of itself and `key`. No other leaf of its group has to be looked at.
+pub fn lower_leaf(queue: &mut [u64], p: usize, key: u64)
+    requires page { ⌜ p < 256 ⌝ }
+    requires groups { ⌜ Groups (now queue) ⌝ }
+    ensures lowered { λ r. ⌜
+        Put (now (queue .entry)) p (min (getD (now (queue .entry)) p 0) key) (now (queue .exit)) ⌝ }
 {
-    station_of(tree[1])
+    let group = LEAVES + p / GROUP;
+    queue[p] = lesser(queue[p], key);
+    queue[group] = lesser(queue[group], key);
+}
+
+// The leaf of page p becomes `key`, which may be greater than it was.
+pub fn set_leaf(queue: &mut [u64], p: usize, key: u64)
+    requires page { ⌜ p < 256 ⌝ }
+    requires groups { ⌜ Groups (now queue) ⌝ }
+    ensures changed { λ r. ⌜ Put (now (queue .entry)) p key (now (queue .exit)) ⌝ }
+{
+    let g = p / GROUP;
+    queue[p] = key;
+    queue[LEAVES + g] = least_between(queue, GROUP * g, GROUP * g + GROUP);
+}
+
+// The least key of all pages.
+pub fn top(queue: &[u64]) -> u64
+    requires groups { ⌜ Groups (now queue) ⌝ }
+    ensures least { λ r. ⌜ r ≡ leastIn (take 256 (now (queue .entry))) ⌝ }
+{
+    least_between(queue, LEAVES, LEAVES + GROUP)
 }

@@ -1,5 +1,4 @@
--- The laws behind the functions' proofs, from the entries of a table to a page worked through.
-pub mod Entries
-pub mod Relaxing
-pub mod Choosing
-pub mod Working
+-- The laws that callers cite, of numbers (Cells) and of a row relaxed (Rows), and the loop of `relax_rows`.
+pub mod Cells
+pub mod Rows
+pub mod Loop

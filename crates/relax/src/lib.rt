@@ -1,7 +1,147 @@
-// Moves relaxed on the lent tables of a search, and a page worked through while it is in hand (01, "The two searches").
-// Each function does to the tables what the step of the same name in the net's definitions does, and keeps the queue of
-// stations to settle in step with them. A page is seen through its content: its stations and their moves.
+// Moves relaxed on a search's working memory (01, "The two searches"): cells, in which each station has its cost and
+// its predecessor; waiting, in which each slot has the key by which its station waits; and the queue of pages, which is
+// told of every key that falls. Where a station's slot, page and row stand is read from two lent tables, the places and
+// the layout. A cell, a key and a row are each a cost or a time times 2048, plus a station. What a search cites of cells
+// is in proofs/Cells.antt, of a row relaxed in proofs/Rows.antt.
+ghost use mathlib.Core.Path.{_≡_};
+ghost use Prim.Native.Nat.{_+_, _*_, _/_, _%_, _<_, _≤_, min};
+ghost use lib.ListN.{length, getD, set};
+ghost use Rattle.queue.specs.Keys.{packed};
+ghost use Rattle.relax.specs.Cells.{memory, noCost, longest, loweredKey, Relaxed, Relaxing, Visited};
+ghost use Rattle.relax.specs.Cells.{Room, Placed, Targets, rowsBetween, LaidOut};
+use common::NOBODY;
+use layout::moves::begin_of;
+use layout::moves::end_of;
+use layout::places::STATIONS;
+use layout::places::page_at;
+use layout::places::slot_of;
+use queue::lesser;
+use queue::lower_leaf;
 
-pub mod moves;
-pub mod tables;
-pub mod through;
+// The key by which station v waits once `sum` was offered to its cell: that of nobody where the cell is not lowered.
+fn lowered_key(cell: u64, sum: u64, v: usize) -> u64
+    requires station { ⌜ v < 2048 ⌝ }
+    requires cost { ⌜ sum < noCost ⌝ }
+    ensures value { λ r. ⌜ r ≡ loweredKey cell sum v ⌝ }
+{
+    if sum < cell / (STATIONS as u64) {
+        sum * (STATIONS as u64) + (v as u64)
+    } else {
+        NOBODY
+    }
+}
+
+// A move leads from u to v, and by it v would cost `sum`: its cell becomes the lesser of itself and the cell of `sum`
+// and u, and where that lowers its cost, v waits by its new key, which is handed back. No branch, as the key of nobody
+// changes nothing.
+fn relax_cell(
+    cells: &mut [u64],
+    waiting: &mut [u64],
+    u: usize,
+    v: usize,
+    slot: usize,
+    sum: u64,
+) -> u64
+    requires from { ⌜ u < 2048 ⌝ }
+    requires to { ⌜ v < 2048 ⌝ }
+    requires cost { ⌜ sum < noCost ⌝ }
+    requires cell { ⌜ v < length (now cells) ⌝ }
+    requires slot { ⌜ slot < length (now waiting) ⌝ }
+    ensures key { λ r. ⌜ r ≡ loweredKey (getD (now (cells .entry)) v 0) sum v ⌝ }
+    ensures cell { λ r. ⌜ now (cells .exit)
+        ≡ set (now (cells .entry)) v (min (getD (now (cells .entry)) v 0) (packed sum u)) ⌝ }
+    ensures waits { λ r. ⌜ now (waiting .exit)
+        ≡ set (now (waiting .entry)) slot (min (getD (now (waiting .entry)) slot 0) r) ⌝ }
+{
+    let old = cells[v];
+    let key = lowered_key(old, sum, v);
+    cells[v] = lesser(old, sum * (STATIONS as u64) + (u as u64));
+    waiting[slot] = lesser(waiting[slot], key);
+    key
+}
+
+// Relaxes a move of station u, whose cost is given: the move leads to station `row % 2048` in time `row / 2048`.
+fn relax_row(
+    cells: &mut [u64],
+    waiting: &mut [u64],
+    queue: &mut [u64],
+    places: &[u16],
+    u: usize,
+    cost: u64,
+    row: u32,
+)
+    requires from { ⌜ u < 2048 ⌝ }
+    requires cost { ⌜ cost + longest < noCost ⌝ }
+    requires room { ⌜ Room (now places) (memory (now cells) (now waiting) (now queue)) ⌝ }
+    requires target { ⌜ Placed (now places) (row % 2048) ⌝ }
+    ensures relaxed { λ r. ⌜ Relaxed (now (places .entry)) u (row % 2048) (cost + row / 2048)
+        (memory (now (cells .entry)) (now (waiting .entry)) (now (queue .entry)))
+        (memory (now (cells .exit)) (now (waiting .exit)) (now (queue .exit))) ⌝ }
+{
+    let v = (row as usize) % STATIONS;
+    let sum = cost + (row as u64) / (STATIONS as u64);
+    let key = relax_cell(cells, waiting, u, v, slot_of(places, v), sum);
+    lower_leaf(queue, page_at(places, v), key);
+}
+
+// Relaxes the rows of the layout from `lo` up to `hi`, which are moves of station u, whose cost is given.
+fn relax_rows(
+    cells: &mut [u64],
+    waiting: &mut [u64],
+    queue: &mut [u64],
+    places: &[u16],
+    layout: &[u32],
+    u: usize,
+    cost: u64,
+    lo: usize,
+    hi: usize,
+)
+    requires from { ⌜ u < 2048 ⌝ }
+    requires cost { ⌜ cost + longest < noCost ⌝ }
+    requires room { ⌜ Room (now places) (memory (now cells) (now waiting) (now queue)) ⌝ }
+    requires within { ⌜ hi ≤ length (now layout) ⌝ }
+    requires targets { ⌜ Targets (now places) (rowsBetween (now layout) lo hi) ⌝ }
+    ensures relaxed { λ r. ⌜ Relaxing (now (places .entry)) u cost (rowsBetween (now (layout .entry)) lo hi)
+        (memory (now (cells .entry)) (now (waiting .entry)) (now (queue .entry)))
+        (memory (now (cells .exit)) (now (waiting .exit)) (now (queue .exit))) ⌝ }
+{
+    let mut i = lo;
+    while i < hi {
+        relax_row(cells, waiting, queue, places, u, cost, layout[i]);
+        i += 1;
+    }
+}
+
+// Visits station u: it no longer waits, and the moves of its row are relaxed in their order. By that it becomes fresh
+// in the DF search, and settled in the plain one.
+pub fn visit(
+    u: usize,
+    places: &[u16],
+    layout: &[u32],
+    cells: &mut [u64],
+    waiting: &mut [u64],
+    queue: &mut [u64],
+)
+    requires station { ⌜ u < 2048 ⌝ }
+    requires cost { ⌜ getD (now cells) u 0 / 2048 + longest < noCost ⌝ }
+    requires room { ⌜ Room (now places) (memory (now cells) (now waiting) (now queue)) ⌝ }
+    requires placed { ⌜ Placed (now places) u ⌝ }
+    requires row { ⌜ LaidOut (now places) (now layout) u ⌝ }
+    ensures visited { λ r. ⌜ Visited (now (places .entry)) (now (layout .entry)) u
+        (memory (now (cells .entry)) (now (waiting .entry)) (now (queue .entry)))
+        (memory (now (cells .exit)) (now (waiting .exit)) (now (queue .exit))) ⌝ }
+{
+    let cost = cells[u] / (STATIONS as u64);
+    waiting[slot_of(places, u)] = NOBODY;
+    relax_rows(
+        cells,
+        waiting,
+        queue,
+        places,
+        layout,
+        u,
+        cost,
+        begin_of(layout, u),
+        end_of(layout, u),
+    );
+}

@@ -5,7 +5,8 @@ use mathlib.Core.List.{List}
 use Prim.Native.Nat.{ℕ, suc, _+_, _-_, _<_, _≤_}
 use native.Mathlib.Omega.{arith}
 use lib.ListN.{length, length-append}
-use Rattle.route.specs.Route.{sourceMark, predecessorAt, Chain, whole, broken, lengthened, chain, stationsOf}
+use Rattle.common.specs.Numbers.{sourceMark}
+use Rattle.route.specs.Route.{predecessorAt, Chain, whole, broken, lengthened, chain, stationsOf}
 use Rattle.route.proofs.Steps.{chain-source, chain-lost, chain-onward}
 
 -- The stations passed and those of a chain; none where the chain is broken.

@@ -10,7 +10,8 @@ use borrow.Author.Tests.{eqb-true, eqb-false, ltb-true, ltb-false, leb-true, leb
 use lib.Dec.{eqb, ltb, leb}
 use lib.ListN.{length, take, drop, length-take, length-append}
 use lib.Seq.{getD-append-seam, take-append-add}
-use Rattle.route.specs.Route.{sourceMark, noneMark, predecessorAt, Chain, whole, broken, chain, trail, back}
+use Rattle.common.specs.Numbers.{sourceMark, noPred}
+use Rattle.route.specs.Route.{predecessorAt, Chain, whole, broken, chain, trail, back}
 use Rattle.route.specs.Route.{Outcome, found, noRoute, refused, fitted, outcome, RouteTo, begins, extends}
 use Rattle.route.specs.Route.{stations, unreached, turnedDown, Handed, handedBack, returned, routeCall}
 use Rattle.route.specs.declared.RouteAnswer.the-variants.{Found}
@@ -53,7 +54,7 @@ pub record FoundBy (preds : List ℕ) (station room : ℕ) (route : List ℕ) : 
 pub found-by : (preds : List ℕ) (station room : ℕ) (route : List ℕ) → outcome preds station room ≡ found route →
     FoundBy preds station room route
 found-by preds station room route e =
-    by (ltb 2048 (length preds)) (leb (length preds) station) (eqb (predecessorAt preds station) noneMark)
+    by (ltb 2048 (length preds)) (leb (length preds) station) (eqb (predecessorAt preds station) noPred)
     refl refl refl
   where
     chained : (c : Chain) → chain preds (length preds) station ≡ c → length preds ≤ 2048 → found route ≡ fitted room c →
@@ -73,7 +74,7 @@ found-by preds station room route e =
             })
 
     by : (s t u : Bool) → ltb 2048 (length preds) ≡ s → leb (length preds) station ≡ t →
-        eqb (predecessorAt preds station) noneMark ≡ u → FoundBy preds station room route
+        eqb (predecessorAt preds station) noPred ≡ u → FoundBy preds station room route
     by true t u a b d =
         let other = outcome-many preds station room (ltb-true 2048 (length preds) a) in
         absurd (let z : _≡_ {A = ℕ} 0 1 = cc in omega arith)
@@ -84,18 +85,18 @@ found-by preds station room route e =
         let few = ltb-false 2048 (length preds) a in
         let other =
         outcome-none preds station room few (leb-false (length preds) station b)
-        (eqb-true (predecessorAt preds station) noneMark d) in
+        (eqb-true (predecessorAt preds station) noPred d) in
         absurd (let z : _≡_ {A = ℕ} 0 1 = cc in omega arith)
     by false false false a b d =
         let few = ltb-false 2048 (length preds) a in
         chained (chain preds (length preds) station) refl few
         (sym e ∙
         outcome-chain preds station room few (leb-false (length preds) station b)
-        (eqb-false (predecessorAt preds station) noneMark d))
+        (eqb-false (predecessorAt preds station) noPred d))
 
 -- A station with a route has an entry.
 has-entry : {preds : List ℕ} {v : ℕ} {route : List ℕ} → length preds ≤ 2048 → RouteTo preds v route →
-    predecessorAt preds v ≡ noneMark → ⊥
+    predecessorAt preds v ≡ noPred → ⊥
 has-entry few (begins v h s) n = omega arith
 has-entry few (extends u v route r h e) n = omega (arith, route-station r)
 
@@ -127,7 +128,7 @@ found-station preds station room front v rest e =
     let up : suc (length front) ≡ length front + 1 = omega arith in
     let taken : take (suc (length front)) (front ++ v ∷ rest) ≡ front ++ v ∷ [] =
     rw up (take-append-add front (v ∷ rest) 1) in
-    rw (getD-append-seam front v rest noneMark, taken) at
+    rw (getD-append-seam front v rest noPred, taken) at
     (found-front preds station room (front ++ v ∷ rest) e (length front) inside)
 
 -- Predecessors that meet a 65,534 entry behind stations only make a route.

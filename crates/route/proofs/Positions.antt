@@ -9,12 +9,13 @@ use borrow.Author.Tests.{ltb-true, ltb-false}
 use lib.Dec.{ltb}
 use lib.ListN.{length, getD, take, List·getD-append}
 use lib.Seq.{take-all, take-append-le, getD-append-seam}
-use Rattle.route.specs.Route.{sourceMark, noneMark, predecessorAt, RouteTo, begins, extends}
+use Rattle.common.specs.Numbers.{sourceMark, noPred}
+use Rattle.route.specs.Route.{predecessorAt, RouteTo, begins, extends}
 use Rattle.route.proofs.Routes.{one-longer, route-some}
 
 -- The station at a position of a route.
 abbrev pub stationAt : List ℕ → ℕ → ℕ
-stationAt route i = getD route i noneMark
+stationAt route i = getD route i noPred
 
 -- A position of a route with one more station: that of the last one, or one before it.
 module _ (P : ℕ → Type 0) (route : List ℕ) (v : ℕ) where
@@ -33,14 +34,14 @@ pub route-ends : {preds : List ℕ} {v : ℕ} {route : List ℕ} → RouteTo pre
 route-ends (begins v h s) = refl
 route-ends (extends u v route r h e) =
     let last : length (route ++ v ∷ []) - 1 ≡ length route = omega (arith, one-longer route v) in
-    rw last (getD-append-seam route v [] noneMark)
+    rw last (getD-append-seam route v [] noPred)
 
 -- It begins with a station whose entry is 65,534.
 pub route-begins : {preds : List ℕ} {v : ℕ} {route : List ℕ} → RouteTo preds v route →
     predecessorAt preds (stationAt route 0) ≡ sourceMark
 route-begins (begins v h s) = s
 route-begins (extends u v route r h e) =
-    rw (List·getD-append route (v ∷ []) noneMark 0 (route-some r)) (route-begins r)
+    rw (List·getD-append route (v ∷ []) noPred 0 (route-some r)) (route-begins r)
 
 -- All its stations are below n.
 pub route-below : {preds : List ℕ} {v : ℕ} {route : List ℕ} → RouteTo preds v route → (i : ℕ) → i < length route →
@@ -50,8 +51,8 @@ route-below {preds} (begins v h s) i l =
     rw first h
 route-below {preds} (extends u v route r h e) i l =
     at-position (λ i. stationAt (route ++ v ∷ []) i < length preds) route v
-    (λ i b. rw (List·getD-append route (v ∷ []) noneMark i b) (route-below r i b))
-    (rw (getD-append-seam route v [] noneMark) h)
+    (λ i b. rw (List·getD-append route (v ∷ []) noPred i b) (route-below r i b))
+    (rw (getD-append-seam route v [] noPred) h)
     i l
 
 -- The entry of each later station is the one before it.
@@ -70,8 +71,8 @@ route-linked {preds} (extends u v route r h e) i l =
     by linked true f =
         let inner = ltb-true (i + 1) (length route) f in
         rw (
-          List·getD-append route (v ∷ []) noneMark (i + 1) inner,
-          List·getD-append route (v ∷ []) noneMark i earlier,
+          List·getD-append route (v ∷ []) noPred (i + 1) inner,
+          List·getD-append route (v ∷ []) noPred i earlier,
         )
         (linked inner)
     by linked false f =
@@ -79,8 +80,8 @@ route-linked {preds} (extends u v route r h e) i l =
         let last : i ≡ length route - 1 = omega arith in
         rw (
           here,
-          getD-append-seam route v [] noneMark,
-          List·getD-append route (v ∷ []) noneMark i earlier,
+          getD-append-seam route v [] noPred,
+          List·getD-append route (v ∷ []) noPred i earlier,
           last,
         )
         (e ∙ sym (route-ends r))
@@ -94,10 +95,10 @@ route-front {preds} (begins v h s) i l =
 route-front {preds} (extends u v route r h e) i l =
     at-position (λ i. RouteTo preds (stationAt (route ++ v ∷ []) i) (take (suc i) (route ++ v ∷ []))) route v
     (λ i b.
-    rw (List·getD-append route (v ∷ []) noneMark i b, take-append-le (suc i) route (v ∷ []) (omega arith))
+    rw (List·getD-append route (v ∷ []) noPred i b, take-append-le (suc i) route (v ∷ []) (omega arith))
     (route-front r i b))
     (rw (
-      getD-append-seam route v [] noneMark,
+      getD-append-seam route v [] noPred,
       take-all (suc (length route)) (route ++ v ∷ []) (omega (arith, one-longer route v)),
     )
     (extends u v route r h e))

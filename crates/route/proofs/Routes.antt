@@ -8,7 +8,8 @@ use native.Mathlib.Omega.{arith}
 use borrow.Author.Tests.{ltb-true, ltb-false}
 use lib.Dec.{ltb}
 use lib.ListN.{length, length-append, List·getD-eq-default}
-use Rattle.route.specs.Route.{noneMark, predecessorAt, whole, chain, trail}
+use Rattle.common.specs.Numbers.{noPred}
+use Rattle.route.specs.Route.{predecessorAt, whole, chain, trail}
 use Rattle.route.specs.Route.{RouteTo, begins, extends}
 use Rattle.route.proofs.Steps.{WholeBy, at-source, behind, whole-by, chain-source, chain-onward}
 
@@ -18,12 +19,12 @@ one-longer route v = simp length-append (omega arith)
 
 -- A number whose entry is not 65,535 is a station.
 module _ (preds : List ℕ) (v : ℕ) where
-  pub is-station : (predecessorAt preds v ≡ noneMark → ⊥) → v < length preds
+  pub is-station : (predecessorAt preds v ≡ noPred → ⊥) → v < length preds
   is-station n = inside (ltb v (length preds)) refl
     where
       inside : (t : Bool) → ltb v (length preds) ≡ t → v < length preds
       inside true e = ltb-true v (length preds) e
-      inside false e = absurd (n (List·getD-eq-default preds noneMark (ltb-false v (length preds) e)))
+      inside false e = absurd (n (List·getD-eq-default preds noPred (ltb-false v (length preds) e)))
 
 module _ (preds : List ℕ) (few : length preds ≤ 2048) where
   -- What the definition finds is a route.

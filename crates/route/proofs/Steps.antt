@@ -7,7 +7,8 @@ use native.Mathlib.Omega.{arith}
 use borrow.Author.Tests.{eq-eqb, ne-eqb, lt-ltb, le-ltb, eqb-true, eqb-false, ltb-true, ltb-false}
 use lib.Dec.{eqb, ltb}
 use lib.ListN.{length, getD}
-use Rattle.route.specs.Route.{sourceMark, predecessorAt, Chain, whole, broken, lengthened, chain}
+use Rattle.common.specs.Numbers.{sourceMark}
+use Rattle.route.specs.Route.{predecessorAt, Chain, whole, broken, lengthened, chain}
 
 -- An entry that is there doesn't depend on what is read past the end.
 pub any-default : (l : List ℕ) (i d e : ℕ) → i < length l → getD l i d ≡ getD l i e

@@ -8,21 +8,12 @@ use lib.ListN.{length, getD, drop}
 use lib.Dec.{ltb, leb, eqb}
 use Rattle.route.specs.declared.RouteAnswer.{RouteAnswer}
 use Rattle.route.specs.declared.RouteAnswer.the-variants.{Found, NoRoute, Refused}
-
-abbrev pub pick : {A : Type 0} → Bool → A → A → A
-pick true a b = a
-pick false a b = b
-
--- "source 65,534; none 65,535"
-abbrev pub sourceMark : ℕ
-sourceMark = 65534
-
-abbrev pub noneMark : ℕ
-noneMark = 65535
+use Rattle.common.specs.Pick.{pick}
+use Rattle.common.specs.Numbers.{sourceMark, noPred}
 
 -- The entry of a station; a number that is no station has none.
 abbrev pub predecessorAt : List ℕ → ℕ → ℕ
-predecessorAt preds v = getD preds v noneMark
+predecessorAt preds v = getD preds v noPred
 
 -- What following the predecessors of a station gives: the stations from source to station, or a broken chain.
 pub data Chain : Type 0 where
@@ -60,7 +51,7 @@ fitted room (whole route) = pick (ltb room (length route)) (refused 17) (found r
 unfoldable pub outcome : List ℕ → ℕ → ℕ → Outcome
 outcome preds station room =
     pick (eqb (length preds) 0 || ltb 2048 (length preds) || leb (length preds) station) (refused 15)
-    (pick (eqb (predecessorAt preds station) noneMark) noRoute
+    (pick (eqb (predecessorAt preds station) noPred) noRoute
     (fitted room (chain preds (length preds) station)))
 
 -- What the caller sees: a count of stations, no route, or the number of a refusal; and the output.

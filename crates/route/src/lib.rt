@@ -5,12 +5,8 @@ ghost use mathlib.Core.Path.{_≡_};
 ghost use Prim.Native.Nat.{_≤_};
 ghost use lib.ListN.{length};
 ghost use Rattle.route.specs.Route.{predecessorAt, chain, stationsOf, writtenTo, returned, routeCall};
-
-// The entry that marks the source of the search.
-const SOURCE: u16 = 65534;
-
-// The entry of a station that the search did not reach.
-const NONE: u16 = 65535;
+use common::NO_PRED;
+use common::SOURCE;
 
 // The greatest number of stations of a map.
 const MOST: usize = 2048;
@@ -27,7 +23,7 @@ fn predecessor_at(preds: &[u16], v: u16) -> u16
     ensures value { λ r. ⌜ r ≡ predecessorAt (now (preds .entry)) v ⌝ }
 {
     let at = v as usize;
-    if at < preds.len() { preds[at] } else { NONE }
+    if at < preds.len() { preds[at] } else { NO_PRED }
 }
 
 // How many stations the chain has from the source to the station; 0 where it is broken. A chain of n stations takes
@@ -76,7 +72,7 @@ pub fn route(preds: &[u16], station: u16, out: &mut [u16]) -> RouteAnswer
     if preds.len() <= station as usize {
         return RouteAnswer::Refused(15);
     }
-    if predecessor_at(preds, station) == NONE {
+    if predecessor_at(preds, station) == NO_PRED {
         return RouteAnswer::NoRoute;
     }
     let count = count_stations(preds, station);

@@ -1,6 +1,7 @@
--- The laws behind the functions' proofs, from the loop of a search to the demands on what it hands back.
-pub mod Running
-pub mod Soundness
-pub mod Exact
-pub mod Handing
-pub mod Demanded
+-- The laws behind the functions' proofs: refusals 1 to 7, the tables written at the end, and the promises.
+
+pub mod Checking
+pub mod Searches
+pub mod Finishing
+pub mod Ending
+pub mod Promising

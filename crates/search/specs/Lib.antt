@@ -1,3 +1,3 @@
 pub mod Reply
 pub mod Promises
-pub mod Running
+pub mod Finishing

@@ -1,33 +1,44 @@
--- What a search hands back: its answer and the four lent tables (01, "The two searches" and "What is turned down").
-use mathlib.Core.Bool.{Bool, true, false, _||_}
-use mathlib.Core.List.{List, [], _++_}
+-- What a search is asked, and what it hands back: its reply and the four lent tables (01, "The two searches" and "What
+-- is turned down").
+use mathlib.Core.Bool.{Bool, _||_}
+use mathlib.Core.List.{List}
 use Prim.Native.Nat.{ℕ}
-use lib.ListN.{length, take, drop, replicate}
+use lib.ListN.{length, take, replicate}
 use lib.Dec.{ltb, leb}
+use Rattle.common.specs.Numbers.{noTime, noPred}
+use Rattle.common.specs.Pick.{pick}
+use Rattle.common.specs.Window.{placed}
 use Rattle.net.specs.Net.{Frame, Page}
-use Rattle.net.specs.Search.{pick, State, Halt, going, noPred, reached}
-use Rattle.net.specs.Search.{refused as halted}
-use Rattle.page.specs.Image.{Outcome, Place, nowhere, at-station, stationCount, headingCheck}
-use Rattle.page.specs.Image.{accepted as well-formed, refused as ill-formed}
-use Rattle.relax.specs.Tables.{noTime}
+use Rattle.net.specs.Search as net
+use Rattle.net.specs.Search.{State, Halt, going, reached}
+use Rattle.page.specs.Image.{Outcome, accepted, refused, nowhere, on-page, placeOf, stationCount, headingCheck}
+use Rattle.page.specs.Check.{afterHeading}
+use Rattle.engine.specs.Map.{mapFrame, mapPage}
 use Rattle.search.specs.declared.Answer.{Answer}
-use Rattle.search.specs.declared.Answer.the-variants.{Accepted, Refused, NoPage, BadPage}
-use Rattle.steps.specs.Map.{mapFrame, mapPage}
+use Rattle.search.specs.declared.Answer.the-variants.{Accepted, Refused}
 
--- "Accepted: the answer has the list's count and the number of stations reached." A refusal has its number and its
--- place; at a page refusal "the answer gives count, page and offset".
-pub data Reply : Type 0 where
-  accepted : ℕ → ℕ → Reply
-  refused : ℕ → Place → Reply
-  page-refused : ℕ → ℕ → ℕ → ℕ → Reply
+-- "Each takes image, source": what a search is asked; and the same of another image.
+pub record Query : Type 0 where
+  pub image : List ℕ
+  pub source : ℕ
 
--- What the code's answer means in these numbers and values.
-abbrev pub meaning : Answer → Reply
-meaning (Accepted count reached) = accepted count reached
-meaning (Refused number) = refused number nowhere
-meaning (NoPage station) = refused 5 (at-station station)
-meaning (BadPage number page offset count) = page-refused number page offset count
+abbrev pub asked : List ℕ → ℕ → Query
+asked image source = record { image = image; source = source }
 
+abbrev pub withImage : List ℕ → Query → Query
+withImage image q = asked image (q .source)
+
+-- The map that is searched as a net: its frame, and what its pages offer; and a search of the net, plain or DF.
+abbrev pub frameOf : Query → Frame
+frameOf q = mapFrame (q .image)
+
+abbrev pub pagesOf : Query → ℕ → Page
+pagesOf q = mapPage (q .image)
+
+abbrev pub NetSearch : Type 0
+NetSearch = Frame → (ℕ → Page) → ℕ → State
+
+-- "and four lent tables: times u32, predecessors u16, marks u8, page list u8"
 pub record Lent : Type 0 where
   pub times : List ℕ
   pub preds : List ℕ
@@ -37,6 +48,17 @@ pub record Lent : Type 0 where
 abbrev pub lent : List ℕ → List ℕ → List ℕ → List ℕ → Lent
 lent t p m l = record { times = t; preds = p; marks = m; list = l }
 
+-- "Accepted: the answer has the list's count and the number of stations reached." A refusal has its number and place;
+-- "Page refusal: .. the answer gives count, page and offset". A number that a reply does not have is 0.
+pub record Reply : Type 0 where
+  pub outcome : Outcome
+  pub count : ℕ
+  pub reached : ℕ
+
+abbrev pub reply : Outcome → ℕ → ℕ → Reply
+reply outcome count reached = record { outcome = outcome; count = count; reached = reached }
+
+-- What a search hands back.
 pub record Handed : Type 0 where
   pub reply : Reply
   pub tables : Lent
@@ -44,52 +66,58 @@ pub record Handed : Type 0 where
 abbrev pub handed : Reply → Lent → Handed
 handed r t = record { reply = r; tables = t }
 
--- What a call handed back: its answer's meaning, and the four tables as it left them.
+-- The code's answer in this paper's numbers and values; and what a call handed back, with the tables as it left them.
+abbrev pub replyOf : Answer → Reply
+replyOf (Accepted count reached) = reply accepted count reached
+replyOf (Refused refusal count) = reply (refused (refusal .number) (placeOf (refusal .place))) count 0
+
 abbrev pub returned : Answer → List ℕ → List ℕ → List ℕ → List ℕ → Handed
-returned answer t p m l = handed (meaning answer) (lent t p m l)
+returned answer t p m l = handed (replyOf answer) (lent t p m l)
 
--- The front of a table written anew, and its other entries kept.
-abbrev pub over : List ℕ → List ℕ → List ℕ
-over front table = front ++ drop (length front) table
+-- "Of times, predecessors and marks the first N entries are written and no others, here and at a page refusal: times
+-- ..; predecessors ..; marks 0. The list holds count entries; its others keep their bytes."
+abbrev pub written : Frame → List ℕ → List ℕ → List ℕ → Lent → Lent
+written F times preds pages t =
+    lent (placed (t .times) 0 times) (placed (t .preds) 0 preds) (placed (t .marks) 0 (replicate (F .size) 0))
+    (placed (t .list) 0 pages)
 
--- How a search that has ended leaves the tables: "times ..; predecessors ..; marks 0. The list holds count entries;
--- its others keep their bytes. Page refusal: times all none, predecessors all 65,535, marks 0, the list holds the
--- references made".
+-- How a search ends. "Page refusal: times all none, predecessors all 65,535, marks 0, the list holds the references
+-- made, the bad page last, and the answer gives count, page and offset."
 abbrev pub ended : Halt → Frame → State → Lent → Handed
 ended going F s t =
-    handed (accepted (length (s .pages)) (reached F s))
-    (lent (over (s .times) (t .times)) (over (s .preds) (t .preds)) (over (replicate (F .size) 0) (t .marks))
-    (over (s .pages) (t .list)))
-ended (halted number p offset) F s t =
-    handed (page-refused number p offset (length (s .pages)))
-    (lent (over (replicate (F .size) noTime) (t .times)) (over (replicate (F .size) noPred) (t .preds))
-    (over (replicate (F .size) 0) (t .marks)) (over (s .pages) (t .list)))
+    handed (reply accepted (length (s .pages)) (reached F s)) (written F (s .times) (s .preds) (s .pages) t)
+ended (net.refused number p offset) F s t =
+    handed (reply (refused number (on-page p offset)) (length (s .pages)) 0)
+    (written F (replicate (F .size) noTime) (replicate (F .size) noPred) (s .pages) t)
 
 -- "a table under N entries"
 abbrev pub tooShort : ℕ → Lent → Bool
 tooShort n t =
     ltb (length (t .times)) n || (ltb (length (t .preds)) n || (ltb (length (t .marks)) n || ltb (length (t .list)) n))
 
--- A search on an image: "1 to 7 are tried in this order before any page and leave every table untouched".
-module _ (search : Frame → (ℕ → Page) → ℕ → State) (image : List ℕ) (source : ℕ) (t : Lent) where
-  unfoldable pub onMap : Handed
-  onMap = let s = search (mapFrame image) (mapPage image) source in ended (s .halt) (mapFrame image) s t
+-- 6 "source not below N", then 7
+abbrev pub sixOrSeven : ℕ → ℕ → Bool → Outcome
+sixOrSeven n source short = pick (leb n source) (refused 6 nowhere) (pick short (refused 7 nowhere) accepted)
 
-  abbrev pub afterHeading : Outcome → Handed
-  afterHeading (ill-formed number place) = handed (refused number place) t
-  afterHeading well-formed =
-      pick (leb (stationCount image) source) (handed (refused 6 nowhere) t)
-      (pick (tooShort (stationCount image) t) (handed (refused 7 nowhere) t) onMap)
+-- "1 to 7 are tried in this order before any page": 1 to 5 by the heading's check
+unfoldable pub callCheck : Query → Lent → Outcome
+callCheck q t =
+    let n = stationCount (q .image) in
+    afterHeading (headingCheck (q .image)) (sixOrSeven n (q .source) (tooShort n t))
+
+-- A search on an image; 1 to 7 "leave every table untouched".
+module _ (search : NetSearch) (q : Query) (t : Lent) where
+  unfoldable pub onMap : Handed
+  onMap = let s = search (frameOf q) (pagesOf q) (q .source) in ended (s .halt) (frameOf q) s t
+
+  abbrev pub afterCheck : Outcome → Handed
+  afterCheck accepted = onMap
+  afterCheck (refused number place) = handed (reply (refused number place) 0 0) t
 
   unfoldable pub searched : Handed
-  searched = afterHeading (headingCheck image)
+  searched = afterCheck (callCheck q t)
 
 -- "A list is the page references that a search makes, in order, at a page refusal too; at any other refusal there are
 -- none."
-abbrev pub listBy : Reply → List ℕ → List ℕ
-listBy (accepted count reached) list = take count list
-listBy (refused number place) list = []
-listBy (page-refused number p offset count) list = take count list
-
 abbrev pub listOf : Handed → List ℕ
-listOf h = listBy (h .reply) (h .tables .list)
+listOf h = take (h .reply .count) (h .tables .list)

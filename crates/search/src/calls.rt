@@ -1,22 +1,28 @@
 // The two public searches. Each takes an image, a source and four lent tables: times, predecessors, marks and page
-// list, with an entry for each station at least. What they promise stands in specs/Reply.antt (the whole outcome,
-// refusals too) and specs/Promises.antt (demands 2 and 3).
+// list, with an entry for each station at least. What they promise is one record (specs/Promises.antt): the whole
+// outcome, refusals too (specs/Reply.antt), and demands 2 and 3.
 
 ghost use mathlib.Core.Path.{_≡_};
 ghost use mathlib.Core.Bool.{not, _||_};
 ghost use lib.Dec.{ltb};
-ghost use Rattle.net.specs.Search.{plainSearch, dfSearch};
-ghost use Rattle.page.specs.Image.{headingCheck, accepted};
-ghost use Rattle.search.specs.Reply.{lent, returned, afterHeading, searched};
-ghost use Rattle.search.specs.Promises.{TimesAreLeast, PageIsFirstBad, ListAgainstDijkstra, SameOnListedPages};
-ghost use Rattle.search.specs.Running.{searchOf};
+ghost use Rattle.net.specs.Run.{searchOf};
+ghost use Rattle.net.specs.Search.{plainSearch};
+ghost use Rattle.page.specs.Image.{accepted, outcomeOf};
+ghost use Rattle.search.specs.Reply.{asked, lent, returned, sixOrSeven, callCheck, onMap, searched};
+ghost use Rattle.search.specs.Promises.{Promised, DfPromised};
 use super::Answer;
-use super::run::search_exact;
+use super::finish::answer_of;
+use super::finish::finish;
+use super::finish::is_over;
+use common::NOBODY;
+use engine::Query;
 use page::Checked;
+use page::Place;
 use page::image::check_heading;
+use page::image::refuse;
 use page::image::station_count;
 
-// Whether a table has an entry for each of n stations: 7.
+// Whether each table has an entry for each of n stations: 7.
 fn fits(n: usize, times: usize, preds: usize, marks: usize, list: usize) -> bool
     ensures value { λ r. ⌜ r ≡ not (ltb times n || (ltb preds n || (ltb marks n || ltb list n))) ⌝ }
 {
@@ -32,67 +38,102 @@ fn fits(n: usize, times: usize, preds: usize, marks: usize, list: usize) -> bool
     n <= list
 }
 
-// 6 and 7, and then the search on the first N entries of each table.
-fn on_tables(
-    df: bool,
-    image: &[u8],
+// 6 and 7 for a map of n stations, of the source and the tables' lengths.
+fn check_tables(
+    n: usize,
     source: u16,
-    times: &mut [u32],
-    preds: &mut [u16],
-    marks: &mut [u8],
-    list: &mut [u8],
-) -> Answer
-    requires formed { ⌜ headingCheck (now image) ≡ accepted ⌝ }
-    ensures searched { λ r. ⌜
-        returned r (now (times .exit)) (now (preds .exit)) (now (marks .exit)) (now (list .exit)) ≡
-        afterHeading (searchOf df) (now (image .entry)) source
-        (lent (now (times .entry)) (now (preds .entry)) (now (marks .entry)) (now (list .entry))) accepted ⌝ }
+    times: usize,
+    preds: usize,
+    marks: usize,
+    list: usize,
+) -> Checked
+    ensures outcome { λ r. ⌜
+        outcomeOf r ≡ sixOrSeven n source (ltb times n || (ltb preds n || (ltb marks n || ltb list n))) ⌝ }
 {
-    let n = station_count(image);
     if n <= source as usize {
-        return Answer::Refused(6);
+        return refuse(6, Place::Nowhere);
     }
-    if fits(n, times.len(), preds.len(), marks.len(), list.len()) {
-        // Entries past the stations are kept.
-        let front = n;
-        return search_exact(
-            df,
-            image,
-            source,
-            &mut times[..front],
-            &mut preds[..front],
-            &mut marks[..front],
-            list,
-        );
+    if fits(n, times, preds, marks, list) {
+        return Checked::Whole;
     }
-    Answer::Refused(7)
+    refuse(7, Place::Nowhere)
 }
 
-// Either search: 1 to 5, and then the rest.
-fn search(
-    df: bool,
+// Refusals 1 to 7, in this order.
+fn check_call(
     image: &[u8],
     source: u16,
-    times: &mut [u32],
-    preds: &mut [u16],
-    marks: &mut [u8],
-    list: &mut [u8],
-) -> Answer
-    ensures searched { λ r. ⌜
-        returned r (now (times .exit)) (now (preds .exit)) (now (marks .exit)) (now (list .exit)) ≡
-        searched (searchOf df) (now (image .entry)) source
+    times: &[u32],
+    preds: &[u16],
+    marks: &[u8],
+    list: &[u8],
+) -> Checked
+    ensures outcome { λ r. ⌜
+        outcomeOf r ≡ callCheck (asked (now (image .entry)) source)
         (lent (now (times .entry)) (now (preds .entry)) (now (marks .entry)) (now (list .entry))) ⌝ }
 {
     match check_heading(image) {
-        Checked::Whole => on_tables(df, image, source, times, preds, marks, list),
-        Checked::Refused(number) => Answer::Refused(number),
-        Checked::NoPage(station) => Answer::NoPage(station),
-        // The heading's check reads no page.
-        Checked::BadPage {
-            number,
-            page: _,
-            offset: _,
-        } => Answer::Refused(number),
+        Checked::Whole => check_tables(
+            station_count(image),
+            source,
+            times.len(),
+            preds.len(),
+            marks.len(),
+            list.len(),
+        ),
+        Checked::Refused(refusal) => Checked::Refused(refusal),
+    }
+}
+
+// The search of a call that 1 to 7 do not refuse: the engine's, on cells of its own and the list lent, written into the
+// first N entries of the other tables.
+fn on_map(
+    query: Query,
+    image: &[u8],
+    times: &mut [u32],
+    preds: &mut [u16],
+    marks: &mut [u8],
+    list: &mut [u8],
+) -> Answer
+    requires passed { ⌜
+        callCheck (asked (now image) (query .source)) (lent (now times) (now preds) (now marks) (now list)) ≡
+        accepted ⌝ }
+    ensures outcome { λ r. ⌜
+        returned r (now (times .exit)) (now (preds .exit)) (now (marks .exit)) (now (list .exit)) ≡
+        onMap (searchOf (query .df)) (asked (now (image .entry)) (query .source))
+        (lent (now (times .entry)) (now (preds .entry)) (now (marks .entry)) (now (list .entry))) ⌝ }
+{
+    let mut cells = [NOBODY; 2048];
+    let ended = engine::run::search(query, image, &mut cells, list);
+    let n = station_count(image);
+    let over = is_over(ended);
+    let reached = finish(
+        over,
+        &cells,
+        &mut times[..n],
+        &mut preds[..n],
+        &mut marks[..n],
+    );
+    answer_of(ended, reached)
+}
+
+// Either search.
+fn search(
+    query: Query,
+    image: &[u8],
+    times: &mut [u32],
+    preds: &mut [u16],
+    marks: &mut [u8],
+    list: &mut [u8],
+) -> Answer
+    ensures outcome { λ r. ⌜
+        returned r (now (times .exit)) (now (preds .exit)) (now (marks .exit)) (now (list .exit)) ≡
+        searched (searchOf (query .df)) (asked (now (image .entry)) (query .source))
+        (lent (now (times .entry)) (now (preds .entry)) (now (marks .entry)) (now (list .entry))) ⌝ }
+{
+    match check_call(image, query.source, times, preds, marks, list) {
+        Checked::Whole => on_map(query, image, times, preds, marks, list),
+        Checked::Refused(refusal) => Answer::Refused { refusal, count: 0 },
     }
 }
 
@@ -105,22 +146,19 @@ pub fn plain(
     marks: &mut [u8],
     list: &mut [u8],
 ) -> Answer
-    ensures outcome { λ r. ⌜
-        returned r (now (times .exit)) (now (preds .exit)) (now (marks .exit)) (now (list .exit)) ≡
-        searched plainSearch (now (image .entry)) source
-        (lent (now (times .entry)) (now (preds .entry)) (now (marks .entry)) (now (list .entry))) ⌝ }
-    ensures times { λ r. ⌜
-        TimesAreLeast (now (image .entry)) source
-        (returned r (now (times .exit)) (now (preds .exit)) (now (marks .exit)) (now (list .exit))) ⌝ }
-    ensures refused { λ r. ⌜
-        PageIsFirstBad (now (image .entry)) source
-        (returned r (now (times .exit)) (now (preds .exit)) (now (marks .exit)) (now (list .exit))) ⌝ }
-    ensures images { λ r. ⌜
-        SameOnListedPages (now (image .entry)) source plainSearch
+    ensures promised { λ r. ⌜
+        Promised plainSearch (asked (now (image .entry)) source)
         (lent (now (times .entry)) (now (preds .entry)) (now (marks .entry)) (now (list .entry)))
         (returned r (now (times .exit)) (now (preds .exit)) (now (marks .exit)) (now (list .exit))) ⌝ }
 {
-    search(false, image, source, times, preds, marks, list)
+    search(
+        Query { df: false, source },
+        image,
+        times,
+        preds,
+        marks,
+        list,
+    )
 }
 
 // The DF search: while a page is in hand, all its stations are worked through.
@@ -132,24 +170,10 @@ pub fn df(
     marks: &mut [u8],
     list: &mut [u8],
 ) -> Answer
-    ensures outcome { λ r. ⌜
-        returned r (now (times .exit)) (now (preds .exit)) (now (marks .exit)) (now (list .exit)) ≡
-        searched dfSearch (now (image .entry)) source
-        (lent (now (times .entry)) (now (preds .entry)) (now (marks .entry)) (now (list .entry))) ⌝ }
-    ensures times { λ r. ⌜
-        TimesAreLeast (now (image .entry)) source
-        (returned r (now (times .exit)) (now (preds .exit)) (now (marks .exit)) (now (list .exit))) ⌝ }
-    ensures refused { λ r. ⌜
-        PageIsFirstBad (now (image .entry)) source
-        (returned r (now (times .exit)) (now (preds .exit)) (now (marks .exit)) (now (list .exit))) ⌝ }
-    ensures list { λ r. ⌜
-        ListAgainstDijkstra (now (image .entry)) source
-        (lent (now (times .entry)) (now (preds .entry)) (now (marks .entry)) (now (list .entry)))
-        (returned r (now (times .exit)) (now (preds .exit)) (now (marks .exit)) (now (list .exit))) ⌝ }
-    ensures images { λ r. ⌜
-        SameOnListedPages (now (image .entry)) source dfSearch
+    ensures promised { λ r. ⌜
+        DfPromised (asked (now (image .entry)) source)
         (lent (now (times .entry)) (now (preds .entry)) (now (marks .entry)) (now (list .entry)))
         (returned r (now (times .exit)) (now (preds .exit)) (now (marks .exit)) (now (list .exit))) ⌝ }
 {
-    search(true, image, source, times, preds, marks, list)
+    search(Query { df: true, source }, image, times, preds, marks, list)
 }

@@ -1,25 +1,15 @@
-// Both searches over whole maps: the plain search (Dijkstra's) and the DF search (01, "The two searches"). They work
-// on the page reader's promise and look at no byte of a page.
+// Both searches over whole maps as calls: the plain search (Dijkstra's) and the DF search (01, "The two searches"). A
+// call tries refusals 1 to 7, lets the engine search in memory of its own, and writes what was found into the lent
+// tables.
 
 pub mod calls;
-mod run;
+mod finish;
 
-// What a search answers.
+use page::Refusal;
+
+// What a search answers: the number of entries of the page list, with the number of stations reached or the refusal. At
+// 1 to 7 the list has no entry; at 8 to 14 the bad page is its last.
 pub enum Answer {
-    // The number of entries of the page list and of stations reached.
-    Accepted {
-        count: usize,
-        reached: usize,
-    },
-    // 1 to 4, 6 and 7: no place.
-    Refused(u8),
-    // 5: the lowest station whose directory byte is not below the page count.
-    NoPage(u16),
-    // 8 to 14: a bad page, and the number of entries of the page list, of which that page is the last.
-    BadPage {
-        number: u8,
-        page: u8,
-        offset: usize,
-        count: usize,
-    },
+    Accepted { count: usize, reached: usize },
+    Refused { refusal: Refusal, count: usize },
 }

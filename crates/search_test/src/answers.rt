@@ -1,6 +1,8 @@
 // The text of an answer: `accepted, count 3, reached 7`, or the refusal's number with the place that it names.
 
 use libc::STDOUT_FILENO;
+use page::Place;
+use page::Refusal;
 use search::Answer;
 
 // Prints a number behind some text.
@@ -14,8 +16,9 @@ fn print_accepted(count: usize, reached: usize) {
     print_number(b", reached ", reached as u64);
 }
 
-fn print_no_page(station: u16) {
-    print_number(b"refused 5, station ", station as u64);
+fn print_station(number: u8, station: u16) {
+    print_number(b"refused ", number as u64);
+    print_number(b", station ", station as u64);
 }
 
 fn print_bad_page(number: u8, page: u8, offset: usize, count: usize) {
@@ -25,17 +28,21 @@ fn print_bad_page(number: u8, page: u8, offset: usize, count: usize) {
     print_number(b", count ", count as u64);
 }
 
+// The count stands beside a page: at any other refusal the list has no entry.
+fn print_refusal(refusal: Refusal, count: usize) {
+    let number = refusal.number;
+    let place = refusal.place;
+    match place {
+        Place::Nowhere => print_number(b"refused ", number as u64),
+        Place::AtStation(station) => print_station(number, station),
+        Place::OnPage { page, offset } => print_bad_page(number, page, offset, count),
+    }
+}
+
 pub fn print_answer(answer: Answer) {
     match answer {
         Answer::Accepted { count, reached } => print_accepted(count, reached),
-        Answer::Refused(number) => print_number(b"refused ", number as u64),
-        Answer::NoPage(station) => print_no_page(station),
-        Answer::BadPage {
-            number,
-            page,
-            offset,
-            count,
-        } => print_bad_page(number, page, offset, count),
+        Answer::Refused { refusal, count } => print_refusal(refusal, count),
     }
     io::write_all(STDOUT_FILENO, b"\n");
 }

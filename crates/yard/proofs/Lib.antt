@@ -1,6 +1,6 @@
--- The laws behind the functions' proofs: the four numbers put into an answer, and how small the numbers are; and that
--- the demands promised leave one outcome only.
+-- The laws behind the functions' proofs: the four numbers put into an answer, how small the numbers are, and what a
+-- search told so has promised.
 
 pub mod Four
 pub mod Small
-pub mod Fixed
+pub mod Told

@@ -1,12 +1,14 @@
 // Answers told to a C caller: each as its status and four numbers, which are put into the answer where it has room.
 
 ghost use mathlib.Core.Path.{_≡_};
-ghost use Rattle.page.specs.Image.{meaning as checkMeaning};
-ghost use Rattle.search.specs.Reply.{meaning as searchMeaning};
-ghost use Rattle.route.specs.Route.{meaning as routeMeaning};
-ghost use Rattle.yard.specs.Numbers.{numbers, told, toldBy, ofCheck, ofSearch, ofRoute, Small};
+ghost use Rattle.page.specs.Image.{refused, placeOf, outcomeOf};
+ghost use Rattle.search.specs.Reply.{replyOf};
+ghost use Rattle.route.specs.Route.{meaning};
+ghost use Rattle.yard.specs.Numbers.{numbers, told, toldBy, ofOutcome, ofCheck, ofSearch, ofRoute, Small};
 use super::Numbers;
 use page::Checked;
+use page::Place;
+use page::Refusal;
 use route::RouteAnswer;
 use search::Answer;
 
@@ -22,39 +24,38 @@ fn numbers(status: u8, count: usize, reached: usize, place: u16, offset: usize) 
     }
 }
 
-pub fn of_check(checked: Checked) -> Numbers
-    ensures value { λ r. ⌜ r ≡ ofCheck (checkMeaning checked) ⌝ }
+fn of_refusal(refusal: Refusal, count: usize) -> Numbers
+    ensures value { λ r. ⌜ r ≡ ofOutcome (refused (refusal .number) (placeOf (refusal .place))) count 0 ⌝ }
 {
-    match checked {
-        Checked::Whole => numbers(0, 0, 0, 0, 0),
-        Checked::Refused(number) => numbers(number, 0, 0, 0, 0),
-        Checked::NoPage(station) => numbers(5, 0, 0, station, 0),
-        Checked::BadPage {
-            number,
-            page,
-            offset,
-        } => numbers(number, 0, 0, page as u16, offset),
+    let number = refusal.number;
+    let place = refusal.place;
+    match place {
+        Place::Nowhere => numbers(number, count, 0, 0, 0),
+        Place::AtStation(station) => numbers(number, count, 0, station, 0),
+        Place::OnPage { page, offset } => numbers(number, count, 0, page as u16, offset),
     }
 }
 
-pub fn of_search(answer: Answer) -> Numbers
-    ensures value { λ r. ⌜ r ≡ ofSearch (searchMeaning answer) ⌝ }
+pub fn of_check(checked: Checked) -> Numbers
+    ensures value { λ r. ⌜ r ≡ ofCheck (outcomeOf checked) ⌝ }
+{
+    match checked {
+        Checked::Whole => numbers(0, 0, 0, 0, 0),
+        Checked::Refused(refusal) => of_refusal(refusal, 0),
+    }
+}
+
+fn of_search(answer: Answer) -> Numbers
+    ensures value { λ r. ⌜ r ≡ ofSearch (replyOf answer) ⌝ }
 {
     match answer {
         Answer::Accepted { count, reached } => numbers(0, count, reached, 0, 0),
-        Answer::Refused(number) => numbers(number, 0, 0, 0, 0),
-        Answer::NoPage(station) => numbers(5, 0, 0, station, 0),
-        Answer::BadPage {
-            number,
-            page,
-            offset,
-            count,
-        } => numbers(number, count, 0, page as u16, offset),
+        Answer::Refused { refusal, count } => of_refusal(refusal, count),
     }
 }
 
 pub fn of_route(answer: RouteAnswer) -> Numbers
-    ensures value { λ r. ⌜ r ≡ ofRoute (routeMeaning answer) ⌝ }
+    ensures value { λ r. ⌜ r ≡ ofRoute (meaning answer) ⌝ }
 {
     match answer {
         RouteAnswer::Found(count) => numbers(0, count, 0, 0, 0),
@@ -76,4 +77,13 @@ pub fn tell(n: Numbers, answer: &mut [u32]) -> u32
     answer[2] = n.place as u32;
     answer[3] = n.offset as u32;
     n.status as u32
+}
+
+// Tells what a search answered.
+pub fn tell_search(answered: Answer, answer: &mut [u32]) -> u32
+    requires small { ⌜ Small (ofSearch (replyOf answered)) ⌝ }
+    ensures told { λ r. ⌜
+        told r (now (answer .exit)) ≡ toldBy (ofSearch (replyOf answered)) (now (answer .entry)) ⌝ }
+{
+    tell(of_search(answered), answer)
 }

@@ -1,17 +1,19 @@
 // The C interface (include/yard.h): each call of the engine as a C function. A slice passes as a pointer and a length
 // in entries. What a call answers becomes its status and the four numbers of `answer` (specs/Numbers.antt); what it
-// does to the lent tables is what the engine's call does.
+// does to the lent tables is what the engine's call does. A search promises a C caller what it promises every caller
+// (search/specs/Promises.antt), of the reply that the numbers tell and of the tables as they are left.
 
 ghost use mathlib.Core.Path.{_≡_};
 ghost use Rattle.net.specs.Search.{plainSearch, dfSearch};
 ghost use Rattle.page.specs.Check.{wholeCheck};
 ghost use Rattle.route.specs.Route.{routeCall};
-ghost use Rattle.search.specs.Reply.{lent, searched};
-ghost use Rattle.yard.specs.Numbers.{told, toldBy, ofCheck, ofSearch, ofRoute, Demands, DfDemands};
+ghost use Rattle.search.specs.Reply.{asked, lent, handed, searched};
+ghost use Rattle.search.specs.Promises.{Promised, DfPromised};
+ghost use Rattle.yard.specs.Numbers.{told, toldBy, ofCheck, ofSearch, ofRoute};
 use answers::of_check;
 use answers::of_route;
-use answers::of_search;
 use answers::tell;
+use answers::tell_search;
 
 mod answers;
 
@@ -45,21 +47,18 @@ pub extern "C" fn yard_plain(
     answer: &mut [u32],
 ) -> u32
     ensures outcome { λ r. ⌜
-        told r (now (answer .exit)) ≡ toldBy (ofSearch ((searched plainSearch (now (image .entry)) source
+        told r (now (answer .exit)) ≡ toldBy (ofSearch ((searched plainSearch (asked (now (image .entry)) source)
         (lent (now (times .entry)) (now (preds .entry)) (now (marks .entry)) (now (list .entry)))) .reply))
         (now (answer .entry)) ⌝ }
-    ensures tables { λ r. ⌜
-        lent (now (times .exit)) (now (preds .exit)) (now (marks .exit)) (now (list .exit)) ≡
-        (searched plainSearch (now (image .entry)) source
-        (lent (now (times .entry)) (now (preds .entry)) (now (marks .entry)) (now (list .entry)))) .tables ⌝ }
-    ensures demands { λ r. ⌜
-        Demands plainSearch (now (image .entry)) source
+    ensures promised { λ r. ⌜
+        Promised plainSearch (asked (now (image .entry)) source)
         (lent (now (times .entry)) (now (preds .entry)) (now (marks .entry)) (now (list .entry)))
-        (now (answer .entry)) (told r (now (answer .exit)))
-        (lent (now (times .exit)) (now (preds .exit)) (now (marks .exit)) (now (list .exit))) ⌝ }
+        (handed ((searched plainSearch (asked (now (image .entry)) source)
+        (lent (now (times .entry)) (now (preds .entry)) (now (marks .entry)) (now (list .entry)))) .reply)
+        (lent (now (times .exit)) (now (preds .exit)) (now (marks .exit)) (now (list .exit)))) ⌝ }
 {
-    let told = search::calls::plain(image, source, times, preds, marks, list);
-    tell(of_search(told), answer)
+    let answered = search::calls::plain(image, source, times, preds, marks, list);
+    tell_search(answered, answer)
 }
 
 // The DF search.
@@ -74,21 +73,18 @@ pub extern "C" fn yard_df(
     answer: &mut [u32],
 ) -> u32
     ensures outcome { λ r. ⌜
-        told r (now (answer .exit)) ≡ toldBy (ofSearch ((searched dfSearch (now (image .entry)) source
+        told r (now (answer .exit)) ≡ toldBy (ofSearch ((searched dfSearch (asked (now (image .entry)) source)
         (lent (now (times .entry)) (now (preds .entry)) (now (marks .entry)) (now (list .entry)))) .reply))
         (now (answer .entry)) ⌝ }
-    ensures tables { λ r. ⌜
-        lent (now (times .exit)) (now (preds .exit)) (now (marks .exit)) (now (list .exit)) ≡
-        (searched dfSearch (now (image .entry)) source
-        (lent (now (times .entry)) (now (preds .entry)) (now (marks .entry)) (now (list .entry)))) .tables ⌝ }
-    ensures demands { λ r. ⌜
-        DfDemands (now (image .entry)) source
+    ensures promised { λ r. ⌜
+        DfPromised (asked (now (image .entry)) source)
         (lent (now (times .entry)) (now (preds .entry)) (now (marks .entry)) (now (list .entry)))
-        (now (answer .entry)) (told r (now (answer .exit)))
-        (lent (now (times .exit)) (now (preds .exit)) (now (marks .exit)) (now (list .exit))) ⌝ }
+        (handed ((searched dfSearch (asked (now (image .entry)) source)
+        (lent (now (times .entry)) (now (preds .entry)) (now (marks .entry)) (now (list .entry)))) .reply)
+        (lent (now (times .exit)) (now (preds .exit)) (now (marks .exit)) (now (list .exit)))) ⌝ }
 {
-    let told = search::calls::df(image, source, times, preds, marks, list);
-    tell(of_search(told), answer)
+    let answered = search::calls::df(image, source, times, preds, marks, list);
+    tell_search(answered, answer)
 }
 
 // The stations from the source to a station, by the predecessors that a search left.

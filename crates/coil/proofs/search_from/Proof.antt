@@ -21,7 +21,7 @@ df-requires : tie.Need-df-requires
 df-requires c κs = search needs
 
 returns : tie.Need-returns
-returns c = ap (λ (h : Handed). h .reply) (c .before .before .before .before .df .ensures .0)
+returns c = ap (λ (h : Handed). h .reply) (c .before .before .before .before .df .ensures .promised .outcome)
 
 pub search-from-spec : {M : Type 1} → statement M
 search-from-spec =

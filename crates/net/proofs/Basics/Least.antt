@@ -7,10 +7,11 @@ use Prim.Native.Nat.{ℕ, zero, suc, _≤_, _<_}
 use native.Mathlib.Nat.{not-suc-le-zero}
 use native.Mathlib.Omega.{arith}
 use borrow.Author.Tests.{lt-ltb, le-ltb}
+use Rattle.common.proofs.Cases.{le-or-lt}
 use Rattle.net.specs.declared.Choice.{Choice}
 use Rattle.net.specs.declared.Choice.the-variants.{Station, Nobody}
 use Rattle.net.specs.Search.{better, least}
-use Rattle.net.proofs.Basics.Tests.{le-or-lt, below-or-last}
+use Rattle.net.proofs.Basics.Tests.{below-or-last}
 
 -- m comes before k: by key, then by number
 pub record Before (key : ℕ → ℕ) (m k : ℕ) : Type 0 where

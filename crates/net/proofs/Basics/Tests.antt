@@ -49,13 +49,6 @@ pub same-test : (a b : Bool) → (a ≡ true → b ≡ true) → (a ≡ false �
 same-test true b h k = h refl
 same-test false b h k = k refl
 
-pub le-or-lt : (a b : ℕ) → (a ≤ b) ⊎ (b < a)
-le-or-lt a b = go (ltb b a) refl
-  where
-    go : (t : Bool) → ltb b a ≡ t → (a ≤ b) ⊎ (b < a)
-    go true e = inr (ltb-true b a e)
-    go false e = inl (ltb-false b a e)
-
 pub below-or-last : (k n : ℕ) → k < suc n → (k < n) ⊎ (k ≡ n)
 below-or-last k n h = go (ltb k n) refl
   where

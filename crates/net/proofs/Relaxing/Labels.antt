@@ -13,10 +13,11 @@ use native.Mathlib.Omega.{arith}
 use lib.ListN.{List·getD-eq-default}
 use lib.Dec.{ltb}
 use borrow.Author.Tests.{ltb-true, lt-ltb, le-ltb}
+use Rattle.common.proofs.Cases.{le-or-lt}
+use Rattle.common.specs.Numbers.{sourceMark, noPred}
 use Rattle.net.specs.Net.{Move, Page, Frame, isGood, movesOf, Goes, Walk, onward, count}
-use Rattle.net.specs.Search.{State, sourceMark, noPred, timeOf, predOf, relax, relaxAll}
+use Rattle.net.specs.Search.{State, timeOf, predOf, relax, relaxAll}
 use Rattle.net.proofs.Sound.{Sound}
-use Rattle.net.proofs.Basics.Tests.{le-or-lt}
 use Rattle.net.proofs.Basics.Count.{count-le, count-mono, count-more}
 use Rattle.net.proofs.Relaxing.Relax.{Tables, Same, Kind, lowered, tied, kept, Relaxed, Spread, Met, Fits}
 use Rattle.net.proofs.Relaxing.Relax.{relax-relaxed, relax-spread, spread-none, relaxAll-keeps, relaxAll-met}

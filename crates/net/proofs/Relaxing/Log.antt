@@ -6,10 +6,11 @@ use mathlib.Core.List.{List, [], _∷_, _++_}
 use mathlib.Core.Bool.{Bool, true, false, _&&_}
 use Prim.Native.Nat.{ℕ, _+_}
 use lib.Dec.{ltb, eqb}
+use Rattle.common.specs.Pick.{pick}
 use Rattle.net.specs.declared.Choice.{Choice}
 use Rattle.net.specs.declared.Choice.the-variants.{Station, Nobody}
 use Rattle.net.specs.Net.{Move, Page, good, bad, Frame}
-use Rattle.net.specs.Search.{State, Halt, refused, pick, isFresh, withPage, settle, markFresh, predOf, timeOf}
+use Rattle.net.specs.Search.{State, Halt, refused, isFresh, withPage, settle, markFresh, predOf, timeOf}
 use Rattle.net.specs.Search.{onChoice, onPage, readFor, relaxTo, relax, relaxAll, visit, chooseOn, workTurn}
 use Rattle.net.specs.Search.{workThrough, plainVisit, dfVisit}
 use Rattle.net.proofs.Basics.Iterate.{iter-keeps}

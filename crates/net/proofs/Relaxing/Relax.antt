@@ -13,10 +13,10 @@ use lib.ListN.{length, getD, set, length-set}
 use lib.Seq.{getD-set-same, getD-set-other}
 use lib.Dec.{ltb}
 use borrow.Author.Tests.{lt-ltb, le-ltb, eq-eqb, ne-eqb, lt-leb}
+use Rattle.common.proofs.Cases.{le-or-lt}
 use Rattle.net.specs.Net.{Frame, Move}
 use Rattle.net.specs.Search.{State, withTables, timeOf, predOf, markOf, isFresh, isSettled, relaxTo, relax}
 use Rattle.net.specs.Search.{relaxAll}
-use Rattle.net.proofs.Basics.Tests.{le-or-lt}
 use Rattle.net.proofs.Basics.Marks.{set-all, marks-settled-alike}
 
 -- The tables: an entry for each station, marks below 4, and no time above none.

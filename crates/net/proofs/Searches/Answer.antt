@@ -11,12 +11,14 @@ use native.Mathlib.Decide.{ℕ-discrete}
 use native.Mathlib.Omega.{arith}
 use lib.ListN.{getD}
 use lib.Seq.{ext-getD}
+use Rattle.common.proofs.Cases.{le-or-lt}
+use Rattle.common.specs.Numbers.{sourceMark, noPred}
 use Rattle.net.specs.declared.Choice.the-variants.{Nobody}
 use Rattle.net.specs.Net.{Page, Frame, Goes, Walk, here, onward}
-use Rattle.net.specs.Search.{State, going, sourceMark, noPred, timeOf, predOf, isSettled, choose, reached}
+use Rattle.net.specs.Search.{State, going, timeOf, predOf, isSettled, choose, reached}
 use Rattle.net.specs.Demands.{Spells, at-source, step, LeastTimes}
 use Rattle.net.proofs.Sound.{Sound}
-use Rattle.net.proofs.Basics.Tests.{le-or-lt, true-of}
+use Rattle.net.proofs.Basics.Tests.{true-of}
 use Rattle.net.proofs.Relaxing.Labels.{nearer, nearer-more, nearer-below-size, sum-below-none}
 use Rattle.net.proofs.Steps.Choose.{NextIs, choose-next}
 use Rattle.net.proofs.Steps.Invariant.{Inv}

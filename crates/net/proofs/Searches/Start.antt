@@ -8,8 +8,9 @@ use native.Mathlib.Decide.{ℕ-discrete}
 use native.Mathlib.Omega.{arith}
 use lib.ListN.{length, set, replicate, length-set, length-replicate}
 use lib.Seq.{getD-set-same, getD-set-other}
+use Rattle.common.specs.Numbers.{sourceMark, noPred}
 use Rattle.net.specs.Net.{Page, Frame, here}
-use Rattle.net.specs.Search.{State, sourceMark, noPred, markOf, timeOf, predOf, isFresh, isSettled, start}
+use Rattle.net.specs.Search.{State, markOf, timeOf, predOf, isFresh, isSettled, start}
 use Rattle.net.proofs.Sound.{Sound}
 use Rattle.net.proofs.Basics.Marks.{getD-replicate-same}
 use Rattle.net.proofs.Relaxing.Relax.{Tables}

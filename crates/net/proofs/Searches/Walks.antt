@@ -6,12 +6,13 @@ use mathlib.Core.Logic.{_⊎_, inl, inr, ⊎-elim}
 use mathlib.Core.Bool.{Bool, true, false, true≢false}
 use Prim.Native.Nat.{ℕ, _+_, _≤_, _<_}
 use native.Mathlib.Omega.{arith}
+use Rattle.common.proofs.Cases.{le-or-lt}
 use Rattle.net.specs.declared.Choice.{Choice}
 use Rattle.net.specs.declared.Choice.the-variants.{Station, Nobody}
 use Rattle.net.specs.Net.{Page, Frame, isGood, Walk, here, onward}
 use Rattle.net.specs.Search.{State, timeOf, isSettled}
 use Rattle.net.proofs.Sound.{Sound}
-use Rattle.net.proofs.Basics.Tests.{false-of, le-or-lt}
+use Rattle.net.proofs.Basics.Tests.{false-of}
 use Rattle.net.proofs.Steps.Choose.{Next, NextIs}
 use Rattle.net.proofs.Steps.Invariant.{Inv}
 

@@ -7,13 +7,14 @@ use Prim.Native.Nat.{ℕ, _≤_, _<_}
 use native.Mathlib.Decide.{ℕ-discrete}
 use native.Mathlib.Omega.{arith}
 use borrow.Author.Tests.{lt-ltb, le-ltb, eq-eqb, ne-eqb}
+use Rattle.common.proofs.Cases.{le-or-lt}
 use Rattle.net.specs.declared.Choice.{Choice}
 use Rattle.net.specs.declared.Choice.the-variants.{Station, Nobody}
 use mathlib.Core.List.{List}
 use Rattle.net.specs.Net.{Move, Frame}
 use Rattle.net.specs.Search.{State, Halt, going, refused, timeOf, isSettled, isFresh, chooseAt, choose, chooseOn}
 use Rattle.net.specs.Search.{onChoice, visit, workTurn, stepBy}
-use Rattle.net.proofs.Basics.Tests.{and-none, false-of, le-or-lt}
+use Rattle.net.proofs.Basics.Tests.{and-none, false-of}
 use Rattle.net.proofs.Basics.Least.{Before, LeastIs, least-is}
 use Rattle.net.proofs.Relaxing.Relax.{Tables}
 use Rattle.net.proofs.Relaxing.Labels.{timed-inside}

@@ -8,10 +8,10 @@ use Prim.Native.Nat.{ℕ, _+_, _*_, _/_, _≤_, _<_}
 use native.Mathlib.Decide.{ℕ-discrete}
 use native.Mathlib.Omega.{arith}
 use lib.ListN.{length-set}
+use Rattle.common.proofs.Cases.{le-or-lt}
 use Rattle.net.specs.Net.{Page, Frame}
 use Rattle.net.specs.Search.{State, markOf, timeOf, predOf, isFresh, isSettled, settle}
 use Rattle.net.proofs.Sound.{Sound}
-use Rattle.net.proofs.Basics.Tests.{le-or-lt}
 use Rattle.net.proofs.Basics.Least.{Before}
 use Rattle.net.proofs.Basics.Marks.{set-all, settle-settles, settle-other}
 use Rattle.net.proofs.Relaxing.Relax.{Tables, Spread}

@@ -11,13 +11,14 @@ use native.Mathlib.Omega.{arith}
 use lib.ListN.{length, length-set}
 use lib.Dec.{ltb, leb, eqb}
 use borrow.Author.Tests.{leb-true, le-leb, eq-eqb}
+use Rattle.common.proofs.Cases.{le-or-lt}
 use Rattle.net.specs.declared.Choice.{Choice}
 use Rattle.net.specs.declared.Choice.the-variants.{Station, Nobody}
 use Rattle.net.specs.Net.{Move, Page, good, Frame, isGood, movesOf, count}
 use Rattle.net.specs.Search.{State, timeOf, predOf, markOf, isFresh, isSettled, markFresh, iter}
 use Rattle.net.specs.Search.{relaxAll, visit, chooseOn, workTurn, workThrough}
 use Rattle.net.proofs.Sound.{Sound}
-use Rattle.net.proofs.Basics.Tests.{and-left, and-right, and-true, false-of, le-or-lt}
+use Rattle.net.proofs.Basics.Tests.{and-left, and-right, and-true, false-of}
 use Rattle.net.proofs.Basics.Iterate.{iter-keeps, iter-counts, iter-stop}
 use Rattle.net.proofs.Basics.Count.{count-le, count-more, count-full}
 use Rattle.net.proofs.Basics.Marks.{set-all, markFresh-own, markFresh-other, markFresh-settled}

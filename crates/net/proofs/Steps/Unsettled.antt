@@ -8,10 +8,11 @@ use Prim.Native.Nat.{ℕ, zero, suc, _+_, _*_, _/_, _%_}
 use native.Mathlib.Omega.{arith}
 use lib.ListN.{getD, set, replicate}
 use lib.Dec.{ltb, eqb}
+use Rattle.common.specs.Pick.{pick}
 use Rattle.net.specs.declared.Choice.{Choice}
 use Rattle.net.specs.declared.Choice.the-variants.{Station, Nobody}
 use Rattle.net.specs.Net.{Move, Frame}
-use Rattle.net.specs.Search.{State, Halt, going, refused, pick, withTables, settle, markFresh, timeOf, predOf}
+use Rattle.net.specs.Search.{State, Halt, going, refused, withTables, settle, markFresh, timeOf, predOf}
 use Rattle.net.specs.Search.{markOf, isFresh, start, onChoice, iter, relaxTo, relax, relaxAll, visit, chooseOn}
 use Rattle.net.specs.Search.{workTurn}
 use Rattle.net.specs.Run.{firstAt, firstWaiting}

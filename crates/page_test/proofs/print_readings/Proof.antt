@@ -6,10 +6,10 @@ use Rattle.page_test.proofs.print_readings.Statement.{statement}
 use Rattle.page_test.proofs.print_readings.Tie as tie
 
 abbrev Inv-loop : tie.InvT-loop
-Inv-loop image directory first next last p₀ run₀ p run = Unit {0}
+Inv-loop image directory places last p₀ run₀ p run = Unit {0}
 
 abbrev μ-loop : tie.MeasureT-loop
-μ-loop image directory first next last p₀ run₀ p run = last - p
+μ-loop image directory places last p₀ run₀ p run = last - p
 
 of-page-requires : tie.Need-of-page-requires Inv-loop μ-loop
 of-page-requires c κs = search needs

@@ -1,4 +1,4 @@
--- `put_line`: in each arm the answer is known, and the line is that of its meaning.
+-- `put_line`: in each arm the answer is known, and the line is that of its reply.
 use borrow.Author.Needs.{needs}
 use Rattle.coil.proofs.lines.put_line.Statement.{statement}
 use Rattle.coil.proofs.lines.put_line.Tie as tie
@@ -14,18 +14,6 @@ enum-known-answer-2 c = search needs
 
 put-refusal-requires : tie.Need-put-refusal-requires
 put-refusal-requires c κs = search needs
-
-enum-told : tie.Need-enum-told
-enum-told c = search needs
-
-put-refusal-requires-2 : tie.Need-put-refusal-requires-2
-put-refusal-requires-2 c κs = search needs
-
-enum-known-answer-3 : tie.Need-enum-known-answer-3
-enum-known-answer-3 c = search needs
-
-put-refusal-requires-3 : tie.Need-put-refusal-requires-3
-put-refusal-requires-3 c κs = search needs
 
 same-length : tie.Need-same-length
 same-length c = search needs
@@ -45,24 +33,6 @@ returns-2 c =
     let is = put .before .before .before .answer2 .given .1 in
     (rw is (put .put-refusal .ensures .0), put .put-refusal .ensures .1)
 
-same-length-3 : tie.Need-same-length-3
-same-length-3 c = search needs
-
-returns-3 : tie.Need-returns-3
-returns-3 c =
-    let put = c .before .before in
-    let is = put .before .before .enum-told .given .1 in
-    (rw is (put .put-refusal2 .ensures .0), put .put-refusal2 .ensures .1)
-
-same-length-4 : tie.Need-same-length-4
-same-length-4 c = search needs
-
-returns-4 : tie.Need-returns-4
-returns-4 c =
-    let put = c .before .before in
-    let is = put .before .before .before .answer3 .given .1 in
-    (rw is (put .put-refusal3 .ensures .0), put .put-refusal3 .ensures .1)
-
 pub put-line-spec : {M : Type 1} → statement M
 put-line-spec =
     tie.close
@@ -71,15 +41,7 @@ put-line-spec =
     put-accepted-requires
     enum-known-answer-2
     put-refusal-requires
-    enum-told
-    put-refusal-requires-2
-    enum-known-answer-3
-    put-refusal-requires-3
     same-length
     returns
     same-length-2
-    returns-2
-    same-length-3
-    returns-3
-    same-length-4
-    returns-4)
+    returns-2)

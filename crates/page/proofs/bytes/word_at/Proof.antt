@@ -1,5 +1,4 @@
--- Past the end both bytes of a word read as 0. Elsewhere the two bytes read are those of the definition, and their
--- sum fits a u16.
+-- Past the end both bytes of a word read as 0. Elsewhere the two bytes read are those of the definition.
 use native.Mathlib.Omega.{arith}
 use denote.Ref.{now}
 use Prim.Native.Nat.{_+_}
@@ -25,17 +24,8 @@ add-byte-at c = search needs
 byte-at-requires-2 : tie.Need-byte-at-requires-2
 byte-at-requires-2 c κs = search needs
 
-cast-result : tie.Need-cast-result
-cast-result c = search needs
-
-cast-result-2 : tie.Need-cast-result-2
-cast-result-2 c = search needs
-
-mul-result : tie.Need-mul-result
-mul-result c = search needs
-
-add-result : tie.Need-add-result
-add-result c = search needs
+joined-requires : tie.Need-joined-requires
+joined-requires c κs = search needs
 
 returns-2 : tie.Need-returns-2
 returns-2 c = search needs
@@ -43,13 +33,4 @@ returns-2 c = search needs
 pub word-at-spec : {M : Type 1} → statement M
 word-at-spec =
     tie.close
-    (tie.spec
-    returns
-    byte-at-requires
-    add-byte-at
-    byte-at-requires-2
-    cast-result
-    cast-result-2
-    mul-result
-    add-result
-    returns-2)
+    (tie.spec returns byte-at-requires add-byte-at byte-at-requires-2 joined-requires returns-2)

@@ -1,36 +1,32 @@
--- The loop's invariant: the bytes from i on are all zero exactly if those from `at` on are. A byte that is not 0
--- decides, and one that is 0 is passed over (proofs/Scans.antt).
-use native.Mathlib.Omega.{arith}
-use Prim.Native.Nat.{ℕ, _-_}
+-- The loop's invariant: all bytes from `at` on are 0 exactly if the sum is and those from i on are; and the sum is at
+-- most 255 for each byte passed. A byte added to the sum is one step of the scan (proofs/Reading/Scans.antt).
 use mathlib.Core.Path.{_≡_, refl, sym, _∙_}
-use mathlib.Core.List.{List}
-use lib.ListN.{length, drop}
+use native.Mathlib.Omega.{arith}
+use Prim.Native.Nat.{_*_, _-_, _≤_}
 use denote.Ref.{now}
+use lib.ListN.{length, drop}
 use Rattle.page.specs.Bytes.{allZero}
-use Rattle.page.proofs.Scans.{zero-not, zero-onward, zero-none}
+use Rattle.page.proofs.Reading.Scans.{zeroWith, zero-added, zero-end}
 use Rattle.page.proofs.bytes.zero_from.Statement.{statement}
 use Rattle.page.proofs.bytes.zero_from.Tie as tie
 
 abbrev Inv-loop : tie.InvT-loop
-Inv-loop s at i₀ i = allZero (drop i s) ≡ allZero (drop at s)
+Inv-loop s at sum₀ i₀ sum i = (zeroWith s sum i ≡ allZero (drop at s)) × (sum ≤ 255 * i)
 
 abbrev μ-loop : tie.MeasureT-loop
-μ-loop s at i₀ i = length s - i
-
-abbrev slice : tie.In-loop Inv-loop μ-loop → List ℕ
-slice c = now (c .before .before .args .s)
+μ-loop s at sum₀ i₀ sum i = length s - i
 
 loop-holds : tie.Need-loop-holds Inv-loop μ-loop
-loop-holds c = refl
+loop-holds c = (refl, omega arith)
 
-shared-slice-read-if1 : tie.Need-shared-slice-read-if1 Inv-loop μ-loop
-shared-slice-read-if1 c = omega arith
+shared-slice-read-sum : tie.Need-shared-slice-read-sum Inv-loop μ-loop
+shared-slice-read-sum c = omega arith
 
-returns : tie.Need-returns Inv-loop μ-loop
-returns c =
-    let tested = c .before .before in
-    let loop = tested .before .loop in
-    sym (zero-not (slice tested) (loop .i) (tested .loop-test .taken) (c .if1 .taken)) ∙ loop .inv
+cast-sum : tie.Need-cast-sum Inv-loop μ-loop
+cast-sum c = omega (arith, c .shared-slice-known .given (c .before .before .loop .i))
+
+add-sum : tie.Need-add-sum Inv-loop μ-loop
+add-sum c = omega (arith, c .shared-slice-known .given (c .before .before .loop .i))
 
 add-i : tie.Need-add-i Inv-loop μ-loop
 add-i c = omega arith
@@ -40,14 +36,17 @@ loop-less c = omega arith
 
 loop-again : tie.Need-loop-again Inv-loop μ-loop
 loop-again c =
-    let tested = c .before .before in
+    let tested = c .before in
     let loop = tested .before .loop in
-    sym (zero-onward (slice tested) (loop .i) (tested .loop-test .taken) (c .if1 .left)) ∙ loop .inv
+    let s = now (tested .before .before .args .s) in (
+      zero-added s (loop .sum) (loop .i) (tested .loop-test .taken) ∙ loop .inv .0,
+      omega (arith, c .shared-slice-known .given (loop .i)),
+    )
 
-returns-2 : tie.Need-returns-2 Inv-loop μ-loop
-returns-2 c =
+returns : tie.Need-returns Inv-loop μ-loop
+returns c =
     let loop = c .before .loop in
-    sym (zero-none (now (c .before .before .args .s)) (loop .i) (c .loop-test .left)) ∙ loop .inv
+    sym (zero-end (now (c .before .before .args .s)) (loop .sum) (loop .i) (c .loop-test .left)) ∙ loop .inv .0
 
 pub zero-from-spec : {M : Type 1} → statement M
 zero-from-spec =
@@ -56,9 +55,10 @@ zero-from-spec =
     Inv-loop
     μ-loop
     loop-holds
-    shared-slice-read-if1
-    returns
+    shared-slice-read-sum
+    cast-sum
+    add-sum
     add-i
     loop-less
     loop-again
-    returns-2)
+    returns)

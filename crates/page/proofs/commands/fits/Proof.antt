@@ -5,7 +5,7 @@ use native.Mathlib.Omega.{arith}
 use denote.Ref.{now}
 use lib.Dec.{leb}
 use lib.ListN.{length}
-use Rattle.page.proofs.Lengths.{length-most}
+use Rattle.page.proofs.Reading.Lengths.{length-most}
 use borrow.Author.Needs.{needs}
 use Rattle.page.proofs.commands.fits.Statement.{statement}
 use Rattle.page.proofs.commands.fits.Tie as tie

@@ -7,7 +7,7 @@ use lib.Dec.{ltb}
 use denote.Ref.{now}
 use borrow.Author.Tests.{le-ltb, lt-ltb, eq-eqb, ne-eqb}
 use borrow.Author.Needs.{needs}
-use Rattle.page.specs.Bytes.{pick}
+use Rattle.common.specs.Pick.{pick}
 use Rattle.page.specs.Image.{accepted, refused, at-station, headingCheck}
 use Rattle.page.proofs.Heading.{from-second, from-third, from-fourth, from-fifth}
 use Rattle.page.proofs.image.check_heading.Statement.{statement}
@@ -20,29 +20,29 @@ past-first : (c : tie.Else1) → headingCheck (image c) ≡ from-second (image c
 unfolding headingCheck
 past-first c = simp (le-ltb _ _ (c .if1 .left))
 
-past-second : (c : tie.Else3)
+past-second : (c : tie.Else2)
     → let first = c .before .before .before in headingCheck (image first) ≡ from-third (image first)
 past-second c =
     let counted = c .before .before in
     past-first (counted .before) ∙
-    simp (← (counted .station-count .ensures .0), ne-eqb _ _ (c .before .if2 .left), le-ltb _ _ (c .if3 .left))
+    simp (← (counted .station-count .ensures .0), ← (c .before .outside .ensures), c .if2 .left)
 
-past-third : (c : tie.Else5)
+past-third : (c : tie.Else3)
     → let first = c .before .before .before .before .before .before in
     headingCheck (image first) ≡ from-fourth (image first)
 past-third c =
     let counted = c .before .before in
     past-second (counted .before) ∙
-    simp (← (counted .page-count .ensures .0), ne-eqb _ _ (c .before .if4 .left), le-ltb _ _ (c .if5 .left))
+    simp (← (counted .page-count .ensures .0), ← (c .before .outside2 .ensures), c .if3 .left)
 
-past-fourth : (c : tie.Else6)
+past-fourth : (c : tie.Else4)
     → let first = c .before .before .before .before .before .before .before in
     headingCheck (image first) ≡ from-fifth (image first)
 past-fourth c =
     let pages = c .before .before .before in
     let stations = pages .before .before .before in
     past-third (c .before) ∙
-    simp (← (stations .station-count .ensures .0), ← (pages .page-count .ensures .0), eq-eqb _ _ (c .if6 .left))
+    simp (← (stations .station-count .ensures .0), ← (pages .page-count .ensures .0), eq-eqb _ _ (c .if4 .left))
 
 -- behind the first four, the station that the scan of the directory found decides
 scan-decides : (c : tie.After-first-not-below)
@@ -61,56 +61,70 @@ scan-decides c =
       ← (c .first-not-below .ensures),
     )
 
+refuse-requires : tie.Need-refuse-requires
+refuse-requires c κs = search needs
+
 returns : tie.Need-returns
 unfolding headingCheck
-returns c = simp (lt-ltb _ _ (c .if1 .taken))
+returns c = c .refuse .ensures ∙ sym (simp (lt-ltb _ _ (c .before .if1 .taken)))
 
 station-count-requires : tie.Need-station-count-requires
 station-count-requires c κs = search needs
 
+outside-requires : tie.Need-outside-requires
+outside-requires c κs = search needs
+
+refuse-requires-2 : tie.Need-refuse-requires-2
+refuse-requires-2 c κs = search needs
+
 returns-2 : tie.Need-returns-2
 returns-2 c =
-    let counted = c .before in
-    sym (past-first (counted .before) ∙ simp (← (counted .station-count .ensures .0), eq-eqb _ _ (c .if2 .taken)))
-
-returns-3 : tie.Need-returns-3
-returns-3 c =
-    let counted = c .before .before in
+    let tested = c .before .before in
+    let counted = tested .before in
+    c .refuse2 .ensures ∙
     sym
     (past-first (counted .before) ∙
-    simp (← (counted .station-count .ensures .0), ne-eqb _ _ (c .before .if2 .left), lt-ltb _ _ (c .if3 .taken)))
+    simp (← (counted .station-count .ensures .0), ← (tested .outside .ensures), c .before .if2 .taken))
 
 page-count-requires : tie.Need-page-count-requires
 page-count-requires c κs = search needs
 
-returns-4 : tie.Need-returns-4
-returns-4 c =
-    let counted = c .before in
-    sym (past-second (counted .before) ∙ simp (← (counted .page-count .ensures .0), eq-eqb _ _ (c .if4 .taken)))
+outside-requires-2 : tie.Need-outside-requires-2
+outside-requires-2 c κs = search needs
 
-returns-5 : tie.Need-returns-5
-returns-5 c =
-    let counted = c .before .before in
+refuse-requires-3 : tie.Need-refuse-requires-3
+refuse-requires-3 c κs = search needs
+
+returns-3 : tie.Need-returns-3
+returns-3 c =
+    let tested = c .before .before in
+    let counted = tested .before in
+    c .refuse3 .ensures ∙
     sym
     (past-second (counted .before) ∙
-    simp (← (counted .page-count .ensures .0), ne-eqb _ _ (c .before .if4 .left), lt-ltb _ _ (c .if5 .taken)))
+    simp (← (counted .page-count .ensures .0), ← (tested .outside2 .ensures), c .before .if3 .taken))
 
-add-if6 : tie.Need-add-if6
-add-if6 c = search needs
+add-if4 : tie.Need-add-if4
+add-if4 c = search needs
 
-mul-if6 : tie.Need-mul-if6
-mul-if6 c = search needs
+mul-if4 : tie.Need-mul-if4
+mul-if4 c = search needs
 
-add-if6-2 : tie.Need-add-if6-2
-add-if6-2 c = search needs
+add-if4-2 : tie.Need-add-if4-2
+add-if4-2 c = search needs
 
-returns-6 : tie.Need-returns-6
-returns-6 c =
-    let pages = c .before .before .before in
+refuse-requires-4 : tie.Need-refuse-requires-4
+refuse-requires-4 c κs = search needs
+
+returns-4 : tie.Need-returns-4
+returns-4 c =
+    let tested = c .before in
+    let pages = tested .before .before .before in
     let stations = pages .before .before .before in
+    c .refuse4 .ensures ∙
     sym
-    (past-third (c .before) ∙
-    simp (← (stations .station-count .ensures .0), ← (pages .page-count .ensures .0), ne-eqb _ _ (c .if6 .taken)))
+    (past-third (tested .before) ∙
+    simp (← (stations .station-count .ensures .0), ← (pages .page-count .ensures .0), ne-eqb _ _ (tested .if4 .taken)))
 
 directory-of-requires : tie.Need-directory-of-requires
 directory-of-requires c κs = search needs
@@ -118,32 +132,41 @@ directory-of-requires c κs = search needs
 first-not-below-requires : tie.Need-first-not-below-requires
 first-not-below-requires c κs = search needs
 
-cast-t11 : tie.Need-cast-t11
-cast-t11 c = search needs
+cast-t17 : tie.Need-cast-t17
+cast-t17 c = search needs
 
-returns-7 : tie.Need-returns-7
-returns-7 c = sym (scan-decides (c .before) ∙ simp (lt-ltb _ _ (c .if7 .taken)))
+refuse-requires-5 : tie.Need-refuse-requires-5
+refuse-requires-5 c κs = search needs
 
-returns-8 : tie.Need-returns-8
-returns-8 c = sym (scan-decides (c .before) ∙ simp (le-ltb _ _ (c .if7 .left)))
+returns-5 : tie.Need-returns-5
+returns-5 c =
+    c .refuse5 .ensures ∙ sym (scan-decides (c .before .before) ∙ simp (lt-ltb _ _ (c .before .if5 .taken)))
+
+returns-6 : tie.Need-returns-6
+returns-6 c = sym (scan-decides (c .before) ∙ simp (le-ltb _ _ (c .if5 .left)))
 
 pub check-heading-spec : {M : Type 1} → statement M
 check-heading-spec =
     tie.close
     (tie.spec
+    refuse-requires
     returns
     station-count-requires
+    outside-requires
+    refuse-requires-2
     returns-2
-    returns-3
     page-count-requires
+    outside-requires-2
+    refuse-requires-3
+    returns-3
+    add-if4
+    mul-if4
+    add-if4-2
+    refuse-requires-4
     returns-4
-    returns-5
-    add-if6
-    mul-if6
-    add-if6-2
-    returns-6
     directory-of-requires
     first-not-below-requires
-    cast-t11
-    returns-7
-    returns-8)
+    cast-t17
+    refuse-requires-5
+    returns-5
+    returns-6)

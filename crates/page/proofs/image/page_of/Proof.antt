@@ -1,7 +1,10 @@
--- The part that `part_of` cuts out is the page; its offset stays far below what a usize holds.
+-- The part that `part_of` cuts out is the page, so that it is short; its offset stays far below what a usize holds.
+use mathlib.Core.Path.{_≡_}
 use native.Mathlib.Omega.{arith}
+use denote.Ref.{now}
 use Rattle.page.specs.Image.{pageBytes}
 use borrow.Author.Needs.{needs}
+use Rattle.page.proofs.Parts.{page-short}
 use Rattle.page.proofs.image.page_of.Statement.{statement}
 use Rattle.page.proofs.image.page_of.Tie as tie
 
@@ -20,9 +23,15 @@ add-from-2 c = omega (arith, c .before .before .fits .p)
 part-of-requires : tie.Need-part-of-requires
 part-of-requires c κs = search needs
 
-returns : tie.Need-returns
+is-page : (c : tie.After-part-of)
+    → let a = c .before .before .before .args in now (c .part-of .result) ≡ pageBytes (now (a .image)) (a .p)
 unfolding pageBytes
-returns c = rw (← (c .before .station-count .ensures .0)) (c .part-of .ensures)
+is-page c = rw (← (c .before .station-count .ensures .0)) (c .part-of .ensures)
+
+returns : tie.Need-returns
+returns c =
+    let a = c .before .before .before .args in
+    (is-page c, rw (is-page c) (page-short (now (a .image)) (a .p)))
 
 pub page-of-spec : {M : Type 1} → statement M
 page-of-spec =

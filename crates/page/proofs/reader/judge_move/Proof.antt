@@ -4,8 +4,8 @@ use mathlib.Core.Path.{_≡_, sym, _∙_}
 use lib.Dec.{eqb}
 use borrow.Author.Tests.{le-ltb, lt-ltb, le-leb, lt-leb, eq-eqb, ne-eqb}
 use borrow.Author.Needs.{needs}
+use Rattle.common.specs.Pick.{pick}
 use Rattle.page.specs.declared.Command.the-variants.{MoveTo, Fault}
-use Rattle.page.specs.Bytes.{pick}
 use Rattle.page.specs.Reading.{judgeMove}
 use Rattle.page.proofs.reader.judge_move.Statement.{statement}
 use Rattle.page.proofs.reader.judge_move.Tie as tie

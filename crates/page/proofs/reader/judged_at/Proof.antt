@@ -1,29 +1,51 @@
--- By the command that `command_at` finds: each arm judges it as the definition does, and a fault stays that fault.
-use mathlib.Core.Path.{_≡_, refl}
+-- By the command that `command_at` finds: each arm judges it as the definition does, and a fault stays that fault. A
+-- missing station and the next one are told by the slot that is due (proofs/Reading/Due.antt).
+use mathlib.Core.Path.{_≡_, refl, _∙_, ap}
+use native.Mathlib.Omega.{arith}
+use Prim.Native.Nat.{ℕ}
 use denote.Ref.{now}
-use lib.ListN.{drop}
+use lib.ListN.{length, drop}
 use borrow.Author.Needs.{needs}
 use Rattle.page.specs.declared.Command.{Command}
-use Rattle.page.specs.Reading.{judge, judgedAt}
-use Rattle.page.proofs.Judging.{judged-as}
+use Rattle.page.specs.Reading.{nextOn, judgeEnd, judge, judgedAt}
+use Rattle.page.proofs.Reading.Judging.{judged-as}
+use Rattle.page.proofs.Reading.Due.{judged-end-by-slot}
 use Rattle.page.proofs.reader.judged_at.Statement.{statement}
 use Rattle.page.proofs.reader.judged_at.Tie as tie
 
 -- The place where a command has been read: what it is judged to be is what the command at the offset is judged to be.
-read-judged : (read : tie.After-command-at) (x answer : Command) → read .command-at .result ≡ x
-    → let a = read .before .before .args in
-    answer ≡ judge (a .size) (a .due) (a .after) (a .least) (drop (a .at) (now (a .page))) x
-    → answer ≡ judgedAt (now (a .page)) (a .at) (a .size) (a .due) (a .after) (a .least)
-read-judged read x answer e judged =
-    let a = read .before .before .args in
-    let law = judged-as (now (a .page)) (a .at) (a .size) (a .due) (a .after) (a .least) in
-    law (read .command-at .result) x answer (read .command-at .ensures) e judged
+module _ (read : tie.After-command-at) where
+  abbrev start : tie.Start
+  start = read .before .before .before .before
+
+  abbrev size : ℕ
+  size = length (now (start .args .directory))
+
+  abbrev next : ℕ
+  next = nextOn (now (start .args .directory)) (start .args .p) (start .args .after)
+
+  read-judged : (x answer : Command) → read .command-at .result ≡ x
+      → let a = start .args in
+      answer ≡ judge size next (a .after) (a .least) (drop (a .at) (now (a .page))) x
+      → answer ≡ judgedAt (now (a .page)) (a .at) size next (a .after) (a .least)
+  read-judged x answer e judged =
+      let a = start .args in
+      let law = judged-as (now (a .page)) (a .at) size next (a .after) (a .least) in
+      law (read .command-at .result) x answer (read .command-at .ensures) e judged
 
 command-at-requires : tie.Need-command-at-requires
 command-at-requires c κs = search needs
 
 enum-told : tie.Need-enum-told
 enum-told c = search needs
+
+add-first-slot : tie.Need-add-first-slot
+add-first-slot c = search needs
+
+first-slot-requires : tie.Need-first-slot-requires
+first-slot-requires c κs =
+    let entry = start (c .before .before) in
+    omega (arith, entry .pre .0 .size, entry .fits .p)
 
 judge-end-requires : tie.Need-judge-end-requires
 judge-end-requires c κs = search needs
@@ -45,12 +67,21 @@ enum-known-number c = search needs
 
 returns : tie.Need-returns
 unfolding judge
-returns c = read-judged (c .before .before .before) _ _ (c .before .enum-told .given .1) (c .judge-end .ensures)
+returns c =
+    let read = c .before .before .before .before in
+    let entry = start read in
+    let a = entry .args in
+    let rest = drop (a .at) (now (a .page)) in
+    let by-slot = judged-end-by-slot (entry .pre .0) (omega (arith, entry .fits .p)) (entry .pre .1 .1) rest in
+    read-judged read _ _ (c .before .before .enum-told .given .1)
+    (c .judge-end .ensures ∙ ap (λ past. judgeEnd past (a .due) rest) (c .before .first-slot .ensures) ∙ by-slot)
 
 returns-2 : tie.Need-returns-2
 unfolding judge
 returns-2 c =
-    read-judged (c .before .before .before .before) _ _ (c .before .before .v .given .1) (c .judge-station .ensures)
+    let read = c .before .before .before .before in
+    read-judged read _ _ (c .before .before .v .given .1)
+    (c .judge-station .ensures (start read .args .after) (start read .pre .1 .1))
 
 returns-3 : tie.Need-returns-3
 unfolding judge
@@ -67,6 +98,8 @@ judged-at-spec =
     (tie.spec
     command-at-requires
     enum-told
+    add-first-slot
+    first-slot-requires
     judge-end-requires
     enum-known-v
     judge-station-requires

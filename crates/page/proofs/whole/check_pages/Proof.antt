@@ -1,34 +1,33 @@
--- The loop's invariant: the pages from p on decide as all the pages do. A page read as good hands on to the next one,
--- and the first that is bad is the outcome (proofs/Pages.antt).
-use mathlib.Core.Path.{_≡_, refl, ap, _∙_}
+-- The loop's invariant: the pages from p on decide as all the pages do, and the layout keeps its length. A page read as
+-- good hands on to the next one, and the first that is bad is the outcome (proofs/Pages.antt).
+use mathlib.Core.Path.{_≡_, refl, ap, sym, _∙_, subst}
 use mathlib.Core.List.{List}
 use native.Mathlib.Omega.{arith}
 use native.Mathlib.Nat.{sub-zero}
 use Prim.Native.Nat.{ℕ, _-_}
 use denote.Ref.{now}
-use lib.ListN.{length, drop, length-take}
+use lib.ListN.{length}
 use borrow.Author.Needs.{needs}
+use Rattle.layout.specs.Places.{Placed}
 use Rattle.page.specs.declared.Verdict.{Verdict}
-use Rattle.page.specs.Image.{stationCount, pageCount, directoryOf}
+use Rattle.page.specs.Image.{pageCount}
 use Rattle.page.specs.Check.{readingOf, verdictOf, pagesFrom}
-use Rattle.page.proofs.Pages.{verdict-is, pages-on, pages-bad, pages-end}
+use Rattle.page.proofs.Parts.{directory-most}
+use Rattle.page.proofs.Pages.{pages-on, pages-bad, pages-end}
 use Rattle.page.proofs.whole.check_pages.Statement.{statement}
 use Rattle.page.proofs.whole.check_pages.Tie as tie
 
 abbrev Inv-loop : tie.InvT-loop
-Inv-loop image first next starts₀ directory pages p₀ starts p =
-    (pagesFrom image (pages - p) p ≡ pagesFrom image pages 0) × (length starts ≡ 2048)
+Inv-loop image places layout₀ pages p₀ layout p =
+    (pagesFrom image (pages - p) p ≡ pagesFrom image pages 0) × (length layout ≡ 17152)
 
 abbrev μ-loop : tie.MeasureT-loop
-μ-loop image first next starts₀ directory pages p₀ starts p = pages - p
+μ-loop image places layout₀ pages p₀ layout p = pages - p
 
 -- The place where the pages have been counted, and the loop is to begin.
 module _ (counted : tie.After-page-count Inv-loop μ-loop) where
-  abbrev directory-found : tie.After-directory-of Inv-loop μ-loop
-  directory-found = counted .before .before .before .before .before .before
-
   abbrev image : List ℕ
-  image = now (directory-found .before .before .args .image)
+  image = now (counted .before .before .before .before .before .before .args .image)
 
   abbrev pages : ℕ
   pages = counted .page-count .result
@@ -36,10 +35,10 @@ module _ (counted : tie.After-page-count Inv-loop μ-loop) where
   all-pages : pagesFrom image pages 0 ≡ pagesFrom image (pageCount image) 0
   all-pages = ap (λ n. pagesFrom image n 0) (counted .page-count .ensures .0)
 
--- The place where a page has been read: the answer is that on the page of the image.
-module _ (read : tie.After-read-page Inv-loop μ-loop) where
+-- The place where a page has been read.
+module _ (read : tie.After-read-page-of Inv-loop μ-loop) where
   abbrev tested : tie.In-loop Inv-loop μ-loop
-  tested = read .before .before .before .before .before
+  tested = read .before .before .before
 
   abbrev before-loop : tie.After-page-count Inv-loop μ-loop
   before-loop = tested .before .before
@@ -47,28 +46,20 @@ module _ (read : tie.After-read-page Inv-loop μ-loop) where
   abbrev p : ℕ
   p = tested .before .loop .p
 
-  verdict : (y : Verdict) → read .read-page .result ≡ y → verdictOf (readingOf (image before-loop) p) ≡ y
-  verdict y e =
-      let directory-is = directory-found before-loop .directory-of .ensures in
-      let page-is = read .before .before .before .before .page-of .ensures in
-      verdict-is (image before-loop) _ _ p _ y directory-is page-is (read .read-page .ensures .0) e
+  verdict : (y : Verdict) → read .read-page-of .result ≡ y → verdictOf (readingOf (image before-loop) p) ≡ y
+  verdict y e = sym (read .read-page-of .ensures .0) ∙ e
 
 directory-of-requires : tie.Need-directory-of-requires Inv-loop μ-loop
 directory-of-requires c κs = search needs
 
-slice-aggregate-thread : tie.Need-slice-aggregate-thread Inv-loop μ-loop
-slice-aggregate-thread c = search needs
+slice-aggregate-place : tie.Need-slice-aggregate-place Inv-loop μ-loop
+slice-aggregate-place c = search needs
 
-slice-aggregate-thread-2 : tie.Need-slice-aggregate-thread-2 Inv-loop μ-loop
-slice-aggregate-thread-2 c = search needs
-
-thread-requires : tie.Need-thread-requires Inv-loop μ-loop
-unfolding directoryOf
-thread-requires c κs =
-    let start = c .before .before .before .before in
-    let image = now (start .args .image) in
-    let e = ap length (c .before .before .directory-of .ensures) in
-    (omega (arith, length-take (stationCount image) (drop 4 image), start .pre .0), refl, refl)
+place-requires : tie.Need-place-requires Inv-loop μ-loop
+place-requires c κs =
+    let start = c .before .before .before in
+    let e = ap length (c .before .directory-of .ensures) in
+    (omega (arith, directory-most (now (start .args .image)), start .pre .0), refl)
 
 page-count-requires : tie.Need-page-count-requires Inv-loop μ-loop
 page-count-requires c κs = search needs
@@ -79,20 +70,20 @@ loop-holds c = (ap (λ n. pagesFrom (image c) n 0) (sub-zero _), refl)
 cast-page : tie.Need-cast-page Inv-loop μ-loop
 cast-page c = search needs
 
-page-of-requires : tie.Need-page-of-requires Inv-loop μ-loop
-page-of-requires c κs = search needs
+slice-aggregate-read-page-of : tie.Need-slice-aggregate-read-page-of Inv-loop μ-loop
+slice-aggregate-read-page-of c = search needs
 
-slice-aggregate-read-page : tie.Need-slice-aggregate-read-page Inv-loop μ-loop
-slice-aggregate-read-page c = search needs
+slice-aggregate-read-page-of-2 : tie.Need-slice-aggregate-read-page-of-2 Inv-loop μ-loop
+slice-aggregate-read-page-of-2 c = search needs
 
-slice-aggregate-read-page-2 : tie.Need-slice-aggregate-read-page-2 Inv-loop μ-loop
-slice-aggregate-read-page-2 c = search needs
-
-slice-aggregate-read-page-3 : tie.Need-slice-aggregate-read-page-3 Inv-loop μ-loop
-slice-aggregate-read-page-3 c = search needs
-
-read-page-requires : tie.Need-read-page-requires Inv-loop μ-loop
-read-page-requires c κs = c .before .before .before .before .before .before .before .before .before .thread .ensures
+read-page-of-requires : tie.Need-read-page-of-requires Inv-loop μ-loop
+read-page-of-requires c κs =
+    let loop = c .before .before .before .loop in
+    let placed = c .before .before .before .before .before .before in (
+      subst (λ d. Placed d (placed .place .last .1 .0)) (placed .before .before .directory-of .ensures)
+          (placed .place .ensures),
+      loop .inv .1,
+    )
 
 enum-told : tie.Need-enum-told Inv-loop μ-loop
 enum-told c = search needs
@@ -100,13 +91,18 @@ enum-told c = search needs
 enum-known-number : tie.Need-enum-known-number Inv-loop μ-loop
 enum-known-number c = search needs
 
+refuse-requires : tie.Need-refuse-requires Inv-loop μ-loop
+refuse-requires c κs = search needs
+
 returns : tie.Need-returns Inv-loop μ-loop
 returns c =
-    let read = c .before .before .before .before in
+    let arm = c .before .before in
+    let read = arm .before .before .before in
     let counted = before-loop read in
-    let fault = c .before .number .given in
+    let fault = arm .number .given in
     let bad = verdict read _ (fault .1) in
     let left = tested read .loop-test .taken in
+    c .refuse .ensures ∙
     pages-bad (image counted) (p read) (pages counted) (fault .0 .0) (fault .0 .1 .0) left bad ∙
     tested read .before .loop .inv .0 ∙
     all-pages counted
@@ -140,19 +136,17 @@ check-pages-spec =
     Inv-loop
     μ-loop
     directory-of-requires
-    slice-aggregate-thread
-    slice-aggregate-thread-2
-    thread-requires
+    slice-aggregate-place
+    place-requires
     page-count-requires
     loop-holds
     cast-page
-    page-of-requires
-    slice-aggregate-read-page
-    slice-aggregate-read-page-2
-    slice-aggregate-read-page-3
-    read-page-requires
+    slice-aggregate-read-page-of
+    slice-aggregate-read-page-of-2
+    read-page-of-requires
     enum-told
     enum-known-number
+    refuse-requires
     returns
     add-p
     loop-less

@@ -1,13 +1,9 @@
--- The outcome is that of `search`; the demands hold of every outcome of the definition (proofs/Demanded.antt), and so
--- of this one.
-use mathlib.Core.Path.{sym, subst}
-use mathlib.Core.Bool.{true}
+-- The outcome is that of `search`, and what is promised holds of every outcome (proofs/Promising.antt).
 use native.Mathlib.Omega.{arith}
 use denote.Ref.{now}
 use Rattle.page.specs.Bytes.{Bytes}
-use Rattle.search.specs.Reply.{lent}
-use Rattle.search.specs.Promises.{TimesAreLeast, PageIsFirstBad, ListAgainstDijkstra}
-use Rattle.search.proofs.Demanded.{times-are-least, page-is-first-bad, list-against-dijkstra, same-pages}
+use Rattle.search.specs.Reply.{asked, lent}
+use Rattle.search.proofs.Promising.{df-promised-of}
 use borrow.Author.Needs.{needs}
 use Rattle.search.proofs.calls.df.Statement.{statement}
 use Rattle.search.proofs.calls.df.Tie as tie
@@ -29,28 +25,12 @@ same-length-4 c = search needs
 
 returns : tie.Need-returns
 returns c =
-    let after-search = c .before .before .before .before .before .before .before .before in
-    let bytes-known =
-    after-search .before .before .before .before .before .before .before .before .before in
-    let entry = bytes-known .before in
-    let a = entry .args in
-    let image = now (a .image) in
-    let source = a .source in
-    let bytes : Bytes image = λ i. omega (arith, bytes-known .shared-slice-known .given i) in
-    let t = lent (now (a .times)) (now (a .preds)) (now (a .marks)) (now (a .list)) in
-    let is = after-search .search .ensures in (
-      is,
-      (
-        subst (TimesAreLeast image source) (sym is) (times-are-least image source bytes true t),
-        (
-          subst (PageIsFirstBad image source) (sym is) (page-is-first-bad image source bytes true t),
-          (
-            subst (ListAgainstDijkstra image source t) (sym is) (list-against-dijkstra image source bytes t),
-            same-pages image source t true _ is,
-          ),
-        ),
-      ),
-    )
+    let searched = c .before .before .before .before .before .before .before .before in
+    let known = searched .before .before .before .before .before .before .before .before .before in
+    let a = known .before .args in
+    let bytes : Bytes (now (a .image)) = λ i. omega (arith, known .shared-slice-known .given i) in
+    df-promised-of (asked (now (a .image)) (a .source))
+    (lent (now (a .times)) (now (a .preds)) (now (a .marks)) (now (a .list))) bytes _ (searched .search .ensures)
 
 pub df-spec : {M : Type 1} → statement M
 df-spec =

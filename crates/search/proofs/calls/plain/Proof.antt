@@ -1,13 +1,10 @@
--- The outcome is that of `search`; the demands hold of every outcome of the definition (proofs/Demanded.antt), and so
--- of this one.
-use mathlib.Core.Path.{sym, subst}
+-- The outcome is that of `search`, and what is promised holds of every outcome (proofs/Promising.antt).
 use mathlib.Core.Bool.{false}
 use native.Mathlib.Omega.{arith}
 use denote.Ref.{now}
 use Rattle.page.specs.Bytes.{Bytes}
-use Rattle.search.specs.Reply.{lent}
-use Rattle.search.specs.Promises.{TimesAreLeast, PageIsFirstBad}
-use Rattle.search.proofs.Demanded.{times-are-least, page-is-first-bad, same-pages}
+use Rattle.search.specs.Reply.{asked, lent}
+use Rattle.search.proofs.Promising.{promised-of}
 use borrow.Author.Needs.{needs}
 use Rattle.search.proofs.calls.plain.Statement.{statement}
 use Rattle.search.proofs.calls.plain.Tie as tie
@@ -29,25 +26,12 @@ same-length-4 c = search needs
 
 returns : tie.Need-returns
 returns c =
-    let after-search = c .before .before .before .before .before .before .before .before in
-    let bytes-known =
-    after-search .before .before .before .before .before .before .before .before .before in
-    let entry = bytes-known .before in
-    let a = entry .args in
-    let image = now (a .image) in
-    let source = a .source in
-    let bytes : Bytes image = λ i. omega (arith, bytes-known .shared-slice-known .given i) in
-    let t = lent (now (a .times)) (now (a .preds)) (now (a .marks)) (now (a .list)) in
-    let is = after-search .search .ensures in (
-      is,
-      (
-        subst (TimesAreLeast image source) (sym is) (times-are-least image source bytes false t),
-        (
-          subst (PageIsFirstBad image source) (sym is) (page-is-first-bad image source bytes false t),
-          same-pages image source t false _ is,
-        ),
-      ),
-    )
+    let searched = c .before .before .before .before .before .before .before .before in
+    let known = searched .before .before .before .before .before .before .before .before .before in
+    let a = known .before .args in
+    let bytes : Bytes (now (a .image)) = λ i. omega (arith, known .shared-slice-known .given i) in
+    promised-of (asked (now (a .image)) (a .source))
+    (lent (now (a .times)) (now (a .preds)) (now (a .marks)) (now (a .list))) bytes false _ (searched .search .ensures)
 
 pub plain-spec : {M : Type 1} → statement M
 plain-spec =

@@ -1,0 +1,34 @@
+-- A window of a table, written: how long the table is then, what is read back, and that a lent window, which comes back
+-- between the entries before and behind it, is the window written.
+use mathlib.Core.Path.{_≡_, refl, ap, sym, _∙_}
+use mathlib.Core.List.{List, _++_, append-assoc}
+use Prim.Native.Nat.{ℕ, _+_, _≤_}
+use native.Mathlib.Omega.{arith}
+use lib.ListN.{length, take, drop, length-append, length-drop}
+use lib.Seq.{take-at, drop-at, drop-drop, length-take-le}
+use Rattle.common.specs.Window.{placed}
+
+module _ (table : List ℕ) (from : ℕ) (entries : List ℕ) where
+  pub placed-length : from + length entries ≤ length table → length (placed table from entries) ≡ length table
+  placed-length h =
+      simp (length-append, length-drop) (omega (arith, length-take-le from table (omega arith)))
+
+  -- what is read back
+  pub placed-window : from ≤ length table → take (length entries) (drop from (placed table from entries)) ≡ entries
+  placed-window h =
+      let behind = drop (from + length entries) table in
+      ap (λ l. take (length entries) (drop from l)) (append-assoc (take from table) entries behind) ∙
+      ap (take (length entries)) (drop-at (take from table) (entries ++ behind) from (length-take-le from table h)) ∙
+      take-at entries behind (length entries) refl
+
+  -- What comes back where a window of so many entries was lent. A front is the window from 0 on.
+  pub lent-window : (size : ℕ) → length entries ≡ size
+      → take from table ++ (entries ++ drop size (drop from table)) ≡ placed table from entries
+  lent-window size e =
+      ap (λ l. take from table ++ (entries ++ l)) (drop-drop size from table) ∙
+      ap (λ n. take from table ++ (entries ++ drop (from + n) table)) (sym e) ∙
+      sym (append-assoc (take from table) entries (drop (from + length entries) table))
+
+pub lent-front : (table entries : List ℕ) (size : ℕ) → length entries ≡ size
+    → entries ++ drop size table ≡ placed table 0 entries
+lent-front table entries size e = lent-window table 0 entries size e

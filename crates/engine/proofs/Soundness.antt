@@ -1,0 +1,48 @@
+-- A well-formed image is a sound net: every move of a good page weighs 1 to 65,535 and leads to a station of the map.
+use mathlib.Core.Path.{_≡_, refl, ap}
+use mathlib.Core.Logic.{⊎-elim}
+use mathlib.Core.List.{List, [], _∷_, map, List·Memᴰ, List·Memᴰ·cases-cons, List·Memᴰ·not-nil}
+use Prim.Native.Nat.{ℕ, _+_, _≤_, _<_}
+use native.Mathlib.Omega.{arith}
+use lib.ListN.{length, getD}
+use Rattle.net.specs.Net.{movesOf, Move as NetMove}
+use Rattle.net.proofs.Sound.{Sound}
+use Rattle.net.proofs.Laws.{map-sound}
+use Rattle.page.specs.declared.Move.{Move}
+use Rattle.page.specs.Bytes.{Bytes}
+use Rattle.page.specs.Image.{directoryOf, headingCheck, accepted}
+use Rattle.page.specs.Reading.{Reading, good, bad, movesOf as stationMoves}
+use Rattle.page.specs.Check.{readingOf}
+use Rattle.page.specs.Good.{GoodMoves}
+use Rattle.page.proofs.Heading.{formed}
+use Rattle.page.proofs.Good.Moves.{image-moves-good}
+use Rattle.engine.specs.Map.{mapFrame, netMove, offered, mapPage}
+
+weighs : (n own least v w : ℕ) (moves : List Move) → GoodMoves n own least moves
+    → List·Memᴰ (record { target = v; weight = w }) (map netMove moves) → (0 < w) × (w ≤ 65535) × (v < n)
+weighs n own least v w [] g m = absurd (List·Memᴰ·not-nil m)
+weighs n own least v w (x ∷ moves) g m =
+    ⊎-elim here (λ k. weighs n own (x .target + 1) v w moves (g .1) k) (List·Memᴰ·cases-cons m)
+  where
+    here : _≡_ {A = NetMove} (record { target = v; weight = w }) (netMove x) → (0 < w) × (w ≤ 65535) × (v < n)
+    here e =
+        let t : v ≡ x .target = ap (λ (k : NetMove). k .target) e in
+        let d : w ≡ x .time = ap (λ (k : NetMove). k .weight) e in
+        (omega (arith, g .0 .timed), omega (arith, g .0 .fits), omega (arith, g .0 .below))
+
+module _ (image : List ℕ) (bytes : Bytes image) where
+  goes-good : (u v w p : ℕ) (r : Reading) → readingOf image p ≡ r
+      → List·Memᴰ (record { target = v; weight = w }) (movesOf (offered r) u)
+      → (0 < w) × (w ≤ 65535) × (v < length (directoryOf image))
+  goes-good u v w p (good moves stations) e m = weighs (length (directoryOf image)) u 0 v w (stationMoves stations u)
+      (image-moves-good image bytes p moves stations e u) m
+  goes-good u v w p (bad number offset) e m = absurd (List·Memᴰ·not-nil m)
+
+  pub image-sound : headingCheck image ≡ accepted → (source : ℕ) → source < length (directoryOf image)
+      → Sound (mapFrame image) (mapPage image) source
+  unfolding mapPage
+  image-sound h source s =
+      let f = formed image h in
+      map-sound (mapFrame image) (mapPage image) source (omega (arith, f .directory, f .stations-most)) refl s
+      (λ u v w g.
+      goes-good u v w (getD (directoryOf image) u 0) (readingOf image (getD (directoryOf image) u 0)) refl g)

@@ -1,0 +1,134 @@
+-- The stations are placed by the directory, and only the source is written into cells, keys and queue that are
+-- nobody's. So a search on the image may begin (proofs/Beginning.antt), and the search ends as the run does.
+use mathlib.Core.Path.{refl, _∙_, ap, subst}
+use mathlib.Core.List.{List}
+use Prim.Native.Nat.{ℕ, _≤_}
+use native.Mathlib.Omega.{arith}
+use denote.Ref.{now}
+use lib.ListN.{length, set}
+use Rattle.page.specs.Bytes.{Bytes}
+use Rattle.page.specs.Image.{directoryOf}
+use Rattle.layout.specs.Places.{Placed}
+use Rattle.page.proofs.Heading.{formed}
+use Rattle.engine.proofs.Beginning.{begin-room, begin-search}
+use Rattle.engine.proofs.Visiting.{placed-at}
+use Rattle.engine.proofs.Referring.{placing-image}
+use borrow.Author.Needs.{needs}
+use Rattle.engine.proofs.run.search.Statement.{statement}
+use Rattle.engine.proofs.run.search.Tie as tie
+
+directory-of-requires : tie.Need-directory-of-requires
+directory-of-requires c κs = search needs
+
+slice-aggregate-place : tie.Need-slice-aggregate-place
+slice-aggregate-place c = search needs
+
+-- The place where the directory is known.
+module _ (found : tie.After-directory-of) where
+  abbrev start : tie.Start
+  start = found .before .before .before .before
+
+  abbrev image : List ℕ
+  image = now (start .args .image)
+
+  few : length (now (found .directory-of .result)) ≤ 2048
+  few =
+      let f = formed image (start .pre .0) in
+      omega (arith, ap length (found .directory-of .ensures), f .directory, f .stations-most)
+
+  bytes : Bytes image
+  bytes i = omega (arith, found .before .before .before .shared-slice-known .given i)
+
+-- The place where its stations are placed.
+module _ (settled : tie.After-place) where
+  abbrev known : tie.After-directory-of
+  known = settled .before .before
+
+  abbrev places : List ℕ
+  places = settled .place .last .1 .0
+
+  placed : Placed (directoryOf (image known)) places
+  placed = subst (λ d. Placed d places) (known .directory-of .ensures) (settled .place .ensures)
+
+place-requires : tie.Need-place-requires
+place-requires c κs = (few (c .before), refl)
+
+cast-begin : tie.Need-cast-begin
+cast-begin c = search needs
+
+slice-aggregate-begin : tie.Need-slice-aggregate-begin
+slice-aggregate-begin c = search needs
+
+slice-aggregate-begin-2 : tie.Need-slice-aggregate-begin-2
+slice-aggregate-begin-2 c = search needs
+
+slice-aggregate-begin-3 : tie.Need-slice-aggregate-begin-3
+slice-aggregate-begin-3 c = search needs
+
+begin-requires : tie.Need-begin-requires
+begin-requires c κs =
+    let settled = c .before .before .before .before .before .before in
+    let start = start (known settled) in
+    let query = start .args .query in
+    let inside = start .pre .1 .0 in
+    let placing = placing-image (query .df) (image (known settled)) (query .source) (bytes (known settled))
+    (start .pre .0) inside (placed settled) in (
+      omega (arith, inside, placed settled .few),
+      (
+        begin-room (placed settled .size) (start .pre .1 .1 .0),
+        placed-at (placed settled) (placing .bytes) (query .source) inside,
+      ),
+    )
+
+slice-aggregate-run : tie.Need-slice-aggregate-run
+slice-aggregate-run c = search needs
+
+slice-aggregate-run-2 : tie.Need-slice-aggregate-run-2
+slice-aggregate-run-2 c = search needs
+
+slice-aggregate-run-3 : tie.Need-slice-aggregate-run-3
+slice-aggregate-run-3 c = search needs
+
+slice-aggregate-run-4 : tie.Need-slice-aggregate-run-4
+slice-aggregate-run-4 c = search needs
+
+run-requires : tie.Need-run-requires
+run-requires c κs =
+    let begun = c .before .before .before .before .before .before .before .before .before .before in
+    let settled = begun .before .before .before .before .before .before .before in
+    let start = start (known settled) in
+    let source = start .args .query .source in
+    let left = begun .begin .ensures in
+    begin-search (start .args .query .df) (image (known settled)) source (bytes (known settled)) (start .pre .0)
+    (start .pre .1 .0) (placed settled) refl (left .0 ∙ ap (λ cells. set cells source 0) (start .pre .1 .1 .0))
+    (left .1 .0) (left .1 .1) (start .pre .1 .1 .1)
+
+same-length : tie.Need-same-length
+same-length c = search needs
+
+same-length-2 : tie.Need-same-length-2
+same-length-2 c = search needs
+
+returns : tie.Need-returns
+returns c = search needs
+
+pub search-spec : {M : Type 1} → statement M
+search-spec =
+    tie.close
+    (tie.spec
+    directory-of-requires
+    slice-aggregate-place
+    place-requires
+    cast-begin
+    slice-aggregate-begin
+    slice-aggregate-begin-2
+    slice-aggregate-begin-3
+    begin-requires
+    slice-aggregate-run
+    slice-aggregate-run-2
+    slice-aggregate-run-3
+    slice-aggregate-run-4
+    run-requires
+    same-length
+    same-length-2
+    returns)

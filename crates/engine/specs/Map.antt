@@ -1,0 +1,31 @@
+-- A map image as a net: its stations and pages by the heading and the directory, and what reading a page offers.
+use mathlib.Core.List.{List, map}
+use Prim.Native.Nat.{ℕ}
+use lib.ListN.{length, getD}
+use Rattle.common.specs.Numbers.{noTime}
+use Rattle.net.specs.Net.{Frame, Page, good, bad}
+use Rattle.net.specs.Net.{Move as NetMove}
+use Rattle.page.specs.declared.Move.{Move}
+use Rattle.page.specs.Image.{directoryOf}
+use Rattle.page.specs.Reading.{Reading, movesOf}
+use Rattle.page.specs.Reading.{good as read-good, bad as read-bad}
+use Rattle.page.specs.Check.{readingOf}
+
+-- What a search knows of a map before it reads a page: N and the page of each station, by the directory.
+abbrev pub frame : List ℕ → Frame
+frame directory = record { size = length directory; pageOf = λ v. getD directory v 0; none = noTime }
+
+abbrev pub mapFrame : List ℕ → Frame
+mapFrame image = frame (directoryOf image)
+
+-- A move of a page as a move of the net: its weight is its time.
+abbrev pub netMove : Move → NetMove
+netMove m = record { target = m .target; weight = m .time }
+
+-- A good page offers the moves of its content; a bad one gives its refusal.
+abbrev pub offered : Reading → Page
+offered (read-good moves stations) = good (λ u. map netMove (movesOf stations u))
+offered (read-bad number offset) = bad number offset
+
+unfoldable pub mapPage : List ℕ → ℕ → Page
+mapPage image p = offered (readingOf image p)

@@ -1,0 +1,29 @@
+-- The two ways are the cases of the definition.
+use Prim.Native.Nat.{_/_}
+use native.Mathlib.Omega.{arith}
+use borrow.Author.Tests.{lt-ltb, le-ltb}
+use borrow.Author.Needs.{needs}
+use Rattle.relax.proofs.lowered_key.Statement.{statement}
+use Rattle.relax.proofs.lowered_key.Tie as tie
+
+div-if1 : tie.Need-div-if1
+div-if1 c = search needs
+
+mul-result : tie.Need-mul-result
+mul-result c = search needs
+
+add-result : tie.Need-add-result
+add-result c = search needs
+
+returns : tie.Need-returns
+returns c =
+    let given = c .before .args in
+    simp (lt-ltb (given .sum) (given .cell / 2048) (omega arith))
+
+returns-2 : tie.Need-returns-2
+returns-2 c =
+    let given = c .before .args in
+    simp (le-ltb (given .sum) (given .cell / 2048) (omega arith))
+
+pub lowered-key-spec : {M : Type 1} → statement M
+lowered-key-spec = tie.close (tie.spec div-if1 mul-result add-result returns returns-2)

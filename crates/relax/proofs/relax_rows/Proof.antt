@@ -1,0 +1,77 @@
+-- The loop's invariant: the rows up to i are relaxed (`Going`).
+use Prim.Native.Nat.{_-_}
+use borrow.Author.Needs.{needs}
+use Rattle.relax.specs.Cells.{memory}
+use Rattle.relax.proofs.Loop.{Going, going-start, going-target, going-more, going-end}
+use Rattle.relax.proofs.relax_rows.Statement.{statement}
+use Rattle.relax.proofs.relax_rows.Tie as tie
+
+abbrev Inv-loop : tie.InvT-loop
+Inv-loop cells₀ waiting₀ queue₀ places layout u cost lo hi i₀ cells waiting queue i =
+    Going places layout u cost lo hi (memory cells₀ waiting₀ queue₀) i (memory cells waiting queue)
+
+abbrev μ-loop : tie.MeasureT-loop
+μ-loop cells₀ waiting₀ queue₀ places layout u cost lo hi i₀ cells waiting queue i = hi - i
+
+loop-holds : tie.Need-loop-holds Inv-loop μ-loop
+loop-holds c =
+    let start = c .before .before .before .before .before in
+    going-start (start .pre .1 .1 .0) (start .pre .1 .1 .1 .1)
+
+mul-relax-row : tie.Need-mul-relax-row Inv-loop μ-loop
+mul-relax-row c = search needs
+
+shared-slice-read-relax-row : tie.Need-shared-slice-read-relax-row Inv-loop μ-loop
+shared-slice-read-relax-row c = search needs
+
+relax-row-requires : tie.Need-relax-row-requires Inv-loop μ-loop
+relax-row-requires c κs =
+    let turn = c .before .before .before .before .before in
+    let asked = turn .before .before .before .before .before .before .pre in
+    let now = turn .loop .inv in
+    let target = going-target now (c .before .before .before .before .loop-test .taken) (asked .1 .1 .1 .0) in
+    (asked .0, (asked .1 .0, (now .room, target)))
+
+add-i : tie.Need-add-i Inv-loop μ-loop
+add-i c = search needs
+
+loop-less : tie.Need-loop-less Inv-loop μ-loop
+loop-less c = search needs
+
+loop-again : tie.Need-loop-again Inv-loop μ-loop
+loop-again c =
+    let relaxed = c .before .before .before .before .before .before in
+    let test = relaxed .before .before .before .before .before in
+    let turn = test .before in
+    let asked = turn .before .before .before .before .before .before .pre in
+    going-more (turn .loop .inv) (test .loop-test .taken) (asked .1 .1 .1 .0) (relaxed .relax-row .ensures)
+
+same-length : tie.Need-same-length Inv-loop μ-loop
+same-length c = search needs
+
+same-length-2 : tie.Need-same-length-2 Inv-loop μ-loop
+same-length-2 c = search needs
+
+same-length-3 : tie.Need-same-length-3 Inv-loop μ-loop
+same-length-3 c = search needs
+
+returns : tie.Need-returns Inv-loop μ-loop
+returns c = going-end (c .before .loop .inv) (c .loop-test .left)
+
+pub relax-rows-spec : {M : Type 1} → statement M
+relax-rows-spec =
+    tie.close
+    (tie.spec
+    Inv-loop
+    μ-loop
+    loop-holds
+    mul-relax-row
+    shared-slice-read-relax-row
+    relax-row-requires
+    add-i
+    loop-less
+    loop-again
+    same-length
+    same-length-2
+    same-length-3
+    returns)

@@ -1,0 +1,145 @@
+-- Refusals 1 to 7: what a call that they do not refuse has, that they name no page, and that the code's tests are the
+-- definition's.
+use mathlib.Core.Path.{_≡_, refl, sym, _∙_}
+use mathlib.Core.Logic.{⊎-elim}
+use mathlib.Core.Bool.{Bool, true, false, not, _||_, true≢false}
+use mathlib.Core.List.{List}
+use Prim.Native.Nat.{ℕ, _+_, _*_, _≤_, _<_}
+use lib.Dec.{ltb, leb, eqb}
+use lib.ListN.{length}
+use borrow.Author.Tests.{lt-ltb, le-ltb, le-leb, lt-leb, ltb-false, leb-false}
+use Rattle.common.specs.Pick.{pick}
+use Rattle.common.proofs.Cases.{le-or-lt, never}
+use Rattle.page.specs.Image.{Outcome, accepted, refused, Place, nowhere, at-station, on-page}
+use Rattle.page.specs.Image.{stationCount, pageCount, directoryOf, firstNotBelow, headingCheck}
+use Rattle.page.specs.Check.{afterHeading}
+use Rattle.search.specs.Reply.{Query, NetSearch, Lent, Handed, reply, handed, tooShort, callCheck, onMap}
+use Rattle.search.specs.Reply.{sixOrSeven, searched}
+
+-- The code's tests.
+pub fits-last : (n list : ℕ) → leb n list ≡ not (ltb list n)
+fits-last n list =
+    ⊎-elim (λ le. rw (le-leb n list le, le-ltb list n le)) (λ lt. rw (lt-leb n list lt, lt-ltb list n lt))
+    (le-or-lt n list)
+
+module _ (n source : ℕ) (short : Bool) where
+  pub no-source : n ≤ source → refused 6 nowhere ≡ sixOrSeven n source short
+  no-source h = rw (le-leb n source h)
+
+  pub long-tables : source < n → (r : Bool) → r ≡ not short → r ≡ true → accepted ≡ sixOrSeven n source short
+  long-tables h r e q = rw (lt-leb n source h) (go short (sym e ∙ q))
+    where
+      go : (b : Bool) → not b ≡ true → accepted ≡ pick b (refused 7 nowhere) accepted
+      go true k = absurd (true≢false (sym k))
+      go false k = refl
+
+  pub short-tables : source < n → (r : Bool) → r ≡ not short → r ≡ false → refused 7 nowhere ≡ sixOrSeven n source short
+  short-tables h r e q = rw (lt-leb n source h) (go short (sym e ∙ q))
+    where
+      go : (b : Bool) → not b ≡ false → refused 7 nowhere ≡ pick b (refused 7 nowhere) accepted
+      go true k = refl
+      go false k = absurd (true≢false k)
+
+module _ (q : Query) (t : Lent) where
+  pub heading-passes : (o : Outcome) (n : ℕ) → headingCheck (q .image) ≡ accepted → n ≡ stationCount (q .image)
+      → o ≡ sixOrSeven n (q .source) (tooShort n t) → o ≡ callCheck q t
+  unfolding callCheck
+  heading-passes o n e count is = is ∙ rw (e, count)
+
+  pub heading-refuses : (o : Outcome) (number : ℕ) (place : Place) → o ≡ headingCheck (q .image)
+      → o ≡ refused number place → refused number place ≡ callCheck q t
+  unfolding callCheck
+  heading-refuses o number place e is = rw (← e, is)
+
+-- An outcome that names no page.
+abbrev pub NamesNoPage : Outcome → Type 0
+NamesNoPage accepted = Unit {0}
+NamesNoPage (refused number nowhere) = Unit {0}
+NamesNoPage (refused number (at-station station)) = Unit {0}
+NamesNoPage (refused number (on-page p offset)) = ⊥
+
+either : (b : Bool) (x y : Outcome) → NamesNoPage x → NamesNoPage y → NamesNoPage (pick b x y)
+either true x y k l = k
+either false x y k l = l
+
+heading-names-no-page : (image : List ℕ) → NamesNoPage (headingCheck image)
+unfolding headingCheck
+heading-names-no-page image =
+    either (ltb (length image) 4) _ _ tt
+    (either (eqb (stationCount image) 0 || ltb 2048 (stationCount image)) _ _ tt
+    (either (eqb (pageCount image) 0 || ltb 240 (pageCount image)) _ _ tt
+    (either (not (eqb (length image) (4 + stationCount image + 256 * pageCount image))) _ _ tt
+    (either (ltb (firstNotBelow (pageCount image) (directoryOf image)) (stationCount image)) _ _ tt tt))))
+
+-- 1 to 7 do not refuse the call.
+pub record Admitted (q : Query) (t : Lent) : Type 0 where
+  pub heading : headingCheck (q .image) ≡ accepted
+  pub inside : q .source < stationCount (q .image)
+  pub long : tooShort (stationCount (q .image)) t ≡ false
+
+-- What 1 to 7 decide: a refusal that names no page, or that the call is admitted.
+pub data Decided (q : Query) (t : Lent) : Outcome → Type 0 where
+  turned-down : (number : ℕ) (place : Place) → NamesNoPage (refused number place) → Decided q t (refused number place)
+  passed : Admitted q t → Decided q t accepted
+
+module _ (q : Query) (t : Lent) where
+  abbrev n : ℕ
+  n = stationCount (q .image)
+
+  by-tables : headingCheck (q .image) ≡ accepted → Decided q t (sixOrSeven n (q .source) (tooShort n t))
+  by-tables e = by-tests (leb n (q .source)) (tooShort n t) refl refl
+    where
+      by-tests : (a b : Bool) → leb n (q .source) ≡ a → tooShort n t ≡ b
+          → Decided q t (pick a (refused 6 nowhere) (pick b (refused 7 nowhere) accepted))
+      by-tests true b x y = turned-down 6 nowhere tt
+      by-tests false true x y = turned-down 7 nowhere tt
+      by-tests false false x y = passed (record { heading = e; inside = leb-false n (q .source) x; long = y })
+
+  pub decided : Decided q t (callCheck q t)
+  unfolding callCheck
+  decided = by-heading (headingCheck (q .image)) refl (heading-names-no-page (q .image))
+    where
+      by-heading : (o : Outcome) → headingCheck (q .image) ≡ o → NamesNoPage o
+          → Decided q t (afterHeading o (sixOrSeven n (q .source) (tooShort n t)))
+      by-heading (refused number place) e k = turned-down number place k
+      by-heading accepted e k = by-tables e
+
+  pub admitted : callCheck q t ≡ accepted → Admitted q t
+  admitted e = go (callCheck q t) e decided
+    where
+      go : (o : Outcome) → o ≡ accepted → Decided q t o → Admitted q t
+      go o is (turned-down number place k) = never (cc)
+      go o is (passed a) = a
+
+  pub passes : Admitted q t → callCheck q t ≡ accepted
+  unfolding callCheck
+  passes a = rw (a .heading, lt-leb n (q .source) (a .inside), a .long)
+
+  or-none : (a b : Bool) → a || b ≡ false → (a ≡ false) × (b ≡ false)
+  or-none false b e = (refl, e)
+  or-none true b e = absurd (true≢false e)
+
+  -- each table has an entry for each station
+  pub long-enough : Admitted q t
+      → (n ≤ length (t .times)) × (n ≤ length (t .preds)) × (n ≤ length (t .marks)) × (n ≤ length (t .list))
+  long-enough k =
+      let short : List ℕ → Bool = λ l. ltb (length l) n in
+      let a = or-none (short (t .times)) (short (t .preds) || (short (t .marks) || short (t .list))) (k .long) in
+      let b = or-none (short (t .preds)) (short (t .marks) || short (t .list)) (a .1) in
+      let d = or-none (short (t .marks)) (short (t .list)) (b .1) in (
+        ltb-false (length (t .times)) n (a .0),
+        ltb-false (length (t .preds)) n (b .0),
+        ltb-false (length (t .marks)) n (d .0),
+        ltb-false (length (t .list)) n (d .1),
+      )
+
+-- What is handed back, as the code decides it.
+module _ (search : NetSearch) (q : Query) (t : Lent) where
+  pub call-made : (h : Handed) → callCheck q t ≡ accepted → h ≡ onMap search q t → h ≡ searched search q t
+  unfolding searched
+  call-made h e is = is ∙ rw e
+
+  pub call-refused : (o : Outcome) (number : ℕ) (place : Place) → o ≡ callCheck q t → o ≡ refused number place
+      → handed (reply (refused number place) 0 0) t ≡ searched search q t
+  unfolding searched
+  call-refused o number place e is = rw (← e, is)

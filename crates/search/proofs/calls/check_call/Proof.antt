@@ -1,0 +1,58 @@
+-- The heading's check decides: passed, 6 and 7 follow; refused by 1 to 5, that refusal is the call's.
+use mathlib.Core.Path.{sym, ap, _∙_}
+use denote.Ref.{now}
+use borrow.Author.Needs.{needs}
+use Rattle.page.specs.Image.{outcomeOf}
+use Rattle.search.specs.Reply.{asked, lent}
+use Rattle.search.proofs.Checking.{heading-passes, heading-refuses}
+use Rattle.search.proofs.calls.check_call.Statement.{statement}
+use Rattle.search.proofs.calls.check_call.Tie as tie
+
+abbrev entry : tie.After-check-heading → tie.Start
+entry checked = checked .before .before .before .before .before .before
+
+check-heading-requires : tie.Need-check-heading-requires
+check-heading-requires c κs = search needs
+
+enum-told : tie.Need-enum-told
+enum-told c = search needs
+
+station-count-requires : tie.Need-station-count-requires
+station-count-requires c κs = search needs
+
+check-tables-requires : tie.Need-check-tables-requires
+check-tables-requires c κs = search needs
+
+enum-known-refusal : tie.Need-enum-known-refusal
+enum-known-refusal c = search needs
+
+returns : tie.Need-returns
+returns c =
+    let counted = c .before in
+    let whole = counted .before in
+    let checked = whole .before .before in
+    let a = entry checked .args in
+    heading-passes (asked (now (a .image)) (a .source))
+    (lent (now (a .times)) (now (a .preds)) (now (a .marks)) (now (a .list))) _ _
+    (sym (checked .check-heading .ensures) ∙ ap outcomeOf (whole .enum-told .given .1))
+    (counted .station-count .ensures .0) (c .check-tables .ensures)
+
+returns-2 : tie.Need-returns-2
+returns-2 c =
+    let checked = c .before .before .before in
+    let a = entry checked .args in
+    heading-refuses (asked (now (a .image)) (a .source))
+    (lent (now (a .times)) (now (a .preds)) (now (a .marks)) (now (a .list))) _ _ _
+    (checked .check-heading .ensures) (ap outcomeOf (c .before .refusal .given .1))
+
+pub check-call-spec : {M : Type 1} → statement M
+check-call-spec =
+    tie.close
+    (tie.spec
+    check-heading-requires
+    enum-told
+    station-count-requires
+    check-tables-requires
+    enum-known-refusal
+    returns
+    returns-2)

@@ -1,0 +1,26 @@
+-- The numbers told are those of the answer.
+use mathlib.Core.Path.{ap, sym, _∙_, subst}
+use denote.Ref.{now}
+use Rattle.yard.specs.Numbers.{toldBy, Small}
+use borrow.Author.Needs.{needs}
+use Rattle.yard.proofs.answers.tell_search.Statement.{statement}
+use Rattle.yard.proofs.answers.tell_search.Tie as tie
+
+of-search-requires : tie.Need-of-search-requires
+of-search-requires c κs = search needs
+
+tell-requires : tie.Need-tell-requires
+tell-requires c κs = subst Small (sym (c .before .of-search .ensures)) (c .before .before .before .pre)
+
+same-length : tie.Need-same-length
+same-length c = search needs
+
+returns : tie.Need-returns
+returns c =
+    let told = c .before .before in
+    let here = told .before .before in
+    let answer = now (here .before .before .args .answer) in
+    told .tell .ensures ∙ ap (λ n. toldBy n answer) (here .of-search .ensures)
+
+pub tell-search-spec : {M : Type 1} → statement M
+tell-search-spec = tie.close (tie.spec of-search-requires tell-requires same-length returns)
