@@ -1,8 +1,8 @@
 // Moves relaxed on a search's working memory (01, "The two searches"): cells, in which each station has its cost and
 // its predecessor; waiting, in which each slot has the key by which its station waits; and the queue of pages, which is
 // told of every key that falls. Where a station's slot, page and row stand is read from two lent tables, the places and
-// the layout. A cell, a key and a row are each a cost or a time times 2048, plus a station. What a search cites of cells
-// is in proofs/Cells.antt, of a row relaxed in proofs/Rows.antt.
+// the layout. A cell, a key and a row are each a cost or a time times 2048, plus a station. What a search cites of
+// cells is in proofs/Cells.antt, of a row relaxed in proofs/Rows.antt.
 ghost use mathlib.Core.Path.{_≡_};
 ghost use Prim.Native.Nat.{_+_, _*_, _/_, _%_, _<_, _≤_, min};
 ghost use lib.ListN.{length, getD, set};

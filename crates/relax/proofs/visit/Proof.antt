@@ -69,7 +69,8 @@ returns c =
     let relaxed = c .before .before .before .before .before .before in
     let read = relaxed .before in
     let slot = read .before .before .before .before .before .slot-of .ensures in
-    record { relaxing = rw (← slot, ← (read .end-of .ensures), ← (read .before .begin-of .ensures)) (relaxed .relax-rows .ensures) }
+    let begins = read .before .begin-of .ensures in
+    record { relaxing = rw (← slot, ← (read .end-of .ensures), ← begins) (relaxed .relax-rows .ensures) }
 
 pub visit-spec : {M : Type 1} → statement M
 visit-spec =
