@@ -7,15 +7,6 @@ use borrow.Author.Needs.{needs}
 use Rattle.coil.proofs.answer_record.Statement.{statement}
 use Rattle.coil.proofs.answer_record.Tie as tie
 
-record-of-requires : tie.Need-record-of-requires
-record-of-requires c κs = search needs
-
-search-from-requires : tie.Need-search-from-requires
-search-from-requires c κs = search needs
-
-put-line-requires : tie.Need-put-line-requires
-put-line-requires c κs = search needs
-
 returns : tie.Need-returns
 returns c =
     let answer = c .before .before in
@@ -29,4 +20,4 @@ returns c =
 
 pub answer-record-spec : {M : Type 1} → statement M
 answer-record-spec =
-    tie.close (tie.spec record-of-requires search-from-requires put-line-requires returns)
+    tie.close (tie.spec (λ c κs. search needs) (λ c κs. search needs) (λ c κs. search needs) returns)

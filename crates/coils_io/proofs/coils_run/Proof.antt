@@ -5,15 +5,6 @@ use borrow.Author.Needs.{needs}
 use Rattle.coils_io.proofs.coils_run.Statement.{statement}
 use Rattle.coils_io.proofs.coils_run.Tie as tie
 
-read-map-requires : tie.Need-read-map-requires
-read-map-requires c κs = search needs
-
-image-of-requires : tie.Need-image-of-requires
-image-of-requires c κs = search needs
-
-answer-records-requires : tie.Need-answer-records-requires
-answer-records-requires c κs = search needs
-
 returns : tie.Need-returns
 returns c = inr refl
 
@@ -23,4 +14,4 @@ returns-2 c = inl refl
 pub coils-run-spec : {M : Type 1} → statement M
 coils-run-spec =
     tie.close
-    (tie.spec read-map-requires image-of-requires answer-records-requires returns returns-2)
+    (tie.spec (λ c κs. search needs) (λ c κs. search needs) (λ c κs. search needs) returns returns-2)

@@ -11,32 +11,11 @@ Inv-loop image directory places last p₀ run₀ p run = Unit {0}
 abbrev μ-loop : tie.MeasureT-loop
 μ-loop image directory places last p₀ run₀ p run = last - p
 
-of-page-requires : tie.Need-of-page-requires Inv-loop μ-loop
-of-page-requires c κs = search needs
-
-begun-requires : tie.Need-begun-requires Inv-loop μ-loop
-begun-requires c κs = search needs
-
 loop-holds : tie.Need-loop-holds Inv-loop μ-loop
 loop-holds c = tt
 
-add-p : tie.Need-add-p Inv-loop μ-loop
-add-p c = search needs
-
-of-page-requires-2 : tie.Need-of-page-requires-2 Inv-loop μ-loop
-of-page-requires-2 c κs = search needs
-
-extended-requires : tie.Need-extended-requires Inv-loop μ-loop
-extended-requires c κs = search needs
-
-loop-less : tie.Need-loop-less Inv-loop μ-loop
-loop-less c = search needs
-
 loop-again : tie.Need-loop-again Inv-loop μ-loop
 loop-again c = tt
-
-ended-requires : tie.Need-ended-requires Inv-loop μ-loop
-ended-requires c κs = search needs
 
 returns : tie.Need-returns Inv-loop μ-loop
 returns c = tt
@@ -47,13 +26,13 @@ print-readings-spec =
     (tie.spec
     Inv-loop
     μ-loop
-    of-page-requires
-    begun-requires
+    (λ c κs. search needs)
+    (λ c κs. search needs)
     loop-holds
-    add-p
-    of-page-requires-2
-    extended-requires
-    loop-less
+    (λ c. search needs)
+    (λ c κs. search needs)
+    (λ c κs. search needs)
+    (λ c. search needs)
     loop-again
-    ended-requires
+    (λ c κs. search needs)
     returns)

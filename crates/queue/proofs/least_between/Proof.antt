@@ -21,60 +21,6 @@ abbrev μ-loop2 : tie.MeasureT-loop2
 loop-holds : tie.Need-loop-holds Inv-loop μ-loop Inv-loop2 μ-loop2
 loop-holds c = scan-start _ _ _ (c .before .pre .0)
 
-add-loop : tie.Need-add-loop Inv-loop μ-loop Inv-loop2 μ-loop2
-add-loop c = search needs
-
-mul-lesser : tie.Need-mul-lesser Inv-loop μ-loop Inv-loop2 μ-loop2
-mul-lesser c = search needs
-
-shared-slice-read-lesser : tie.Need-shared-slice-read-lesser Inv-loop μ-loop Inv-loop2 μ-loop2
-shared-slice-read-lesser c = search needs
-
-lesser-requires : tie.Need-lesser-requires Inv-loop μ-loop Inv-loop2 μ-loop2
-lesser-requires c κs = search needs
-
-add-lesser : tie.Need-add-lesser Inv-loop μ-loop Inv-loop2 μ-loop2
-add-lesser c = search needs
-
-mul-lesser-2 : tie.Need-mul-lesser-2 Inv-loop μ-loop Inv-loop2 μ-loop2
-mul-lesser-2 c = search needs
-
-shared-slice-read-lesser-2 : tie.Need-shared-slice-read-lesser-2 Inv-loop μ-loop Inv-loop2 μ-loop2
-shared-slice-read-lesser-2 c = search needs
-
-lesser-requires-2 : tie.Need-lesser-requires-2 Inv-loop μ-loop Inv-loop2 μ-loop2
-lesser-requires-2 c κs = search needs
-
-add-lesser-2 : tie.Need-add-lesser-2 Inv-loop μ-loop Inv-loop2 μ-loop2
-add-lesser-2 c = search needs
-
-mul-lesser-3 : tie.Need-mul-lesser-3 Inv-loop μ-loop Inv-loop2 μ-loop2
-mul-lesser-3 c = search needs
-
-shared-slice-read-lesser-3 : tie.Need-shared-slice-read-lesser-3 Inv-loop μ-loop Inv-loop2 μ-loop2
-shared-slice-read-lesser-3 c = search needs
-
-lesser-requires-3 : tie.Need-lesser-requires-3 Inv-loop μ-loop Inv-loop2 μ-loop2
-lesser-requires-3 c κs = search needs
-
-add-lesser-3 : tie.Need-add-lesser-3 Inv-loop μ-loop Inv-loop2 μ-loop2
-add-lesser-3 c = search needs
-
-mul-lesser-4 : tie.Need-mul-lesser-4 Inv-loop μ-loop Inv-loop2 μ-loop2
-mul-lesser-4 c = search needs
-
-shared-slice-read-lesser-4 : tie.Need-shared-slice-read-lesser-4 Inv-loop μ-loop Inv-loop2 μ-loop2
-shared-slice-read-lesser-4 c = search needs
-
-lesser-requires-4 : tie.Need-lesser-requires-4 Inv-loop μ-loop Inv-loop2 μ-loop2
-lesser-requires-4 c κs = search needs
-
-add-i : tie.Need-add-i Inv-loop μ-loop Inv-loop2 μ-loop2
-add-i c = search needs
-
-loop-less : tie.Need-loop-less Inv-loop μ-loop Inv-loop2 μ-loop2
-loop-less c = search needs
-
 loop-again : tie.Need-loop-again Inv-loop μ-loop Inv-loop2 μ-loop2
 loop-again c =
     let tested = c .before .before .before .before .before .before .before .before in
@@ -83,26 +29,8 @@ loop-again c =
     (tested .loop-test .taken) (c .before .before .before .before .before .before .lesser .ensures)
     (c .before .before .before .before .lesser2 .ensures) (c .before .before .lesser3 .ensures) (c .lesser4 .ensures)
 
-least-of-requires : tie.Need-least-of-requires Inv-loop μ-loop Inv-loop2 μ-loop2
-least-of-requires c κs = search needs
-
 loop2-holds : tie.Need-loop2-holds Inv-loop μ-loop Inv-loop2 μ-loop2
 loop2-holds c = rw (c .least-of .ensures) (c .before .before .loop .inv)
-
-mul-lesser-5 : tie.Need-mul-lesser-5 Inv-loop μ-loop Inv-loop2 μ-loop2
-mul-lesser-5 c = search needs
-
-shared-slice-read-lesser-5 : tie.Need-shared-slice-read-lesser-5 Inv-loop μ-loop Inv-loop2 μ-loop2
-shared-slice-read-lesser-5 c = search needs
-
-lesser-requires-5 : tie.Need-lesser-requires-5 Inv-loop μ-loop Inv-loop2 μ-loop2
-lesser-requires-5 c κs = search needs
-
-add-i-2 : tie.Need-add-i-2 Inv-loop μ-loop Inv-loop2 μ-loop2
-add-i-2 c = search needs
-
-loop2-less : tie.Need-loop2-less Inv-loop μ-loop Inv-loop2 μ-loop2
-loop2-less c = search needs
 
 loop2-again : tie.Need-loop2-again Inv-loop μ-loop Inv-loop2 μ-loop2
 loop2-again c =
@@ -125,31 +53,31 @@ least-between-spec =
     Inv-loop2
     μ-loop2
     loop-holds
-    add-loop
-    mul-lesser
-    shared-slice-read-lesser
-    lesser-requires
-    add-lesser
-    mul-lesser-2
-    shared-slice-read-lesser-2
-    lesser-requires-2
-    add-lesser-2
-    mul-lesser-3
-    shared-slice-read-lesser-3
-    lesser-requires-3
-    add-lesser-3
-    mul-lesser-4
-    shared-slice-read-lesser-4
-    lesser-requires-4
-    add-i
-    loop-less
+    (λ c. search needs)
+    (λ c. search needs)
+    (λ c. search needs)
+    (λ c κs. search needs)
+    (λ c. search needs)
+    (λ c. search needs)
+    (λ c. search needs)
+    (λ c κs. search needs)
+    (λ c. search needs)
+    (λ c. search needs)
+    (λ c. search needs)
+    (λ c κs. search needs)
+    (λ c. search needs)
+    (λ c. search needs)
+    (λ c. search needs)
+    (λ c κs. search needs)
+    (λ c. search needs)
+    (λ c. search needs)
     loop-again
-    least-of-requires
+    (λ c κs. search needs)
     loop2-holds
-    mul-lesser-5
-    shared-slice-read-lesser-5
-    lesser-requires-5
-    add-i-2
-    loop2-less
+    (λ c. search needs)
+    (λ c. search needs)
+    (λ c κs. search needs)
+    (λ c. search needs)
+    (λ c. search needs)
     loop2-again
     returns)

@@ -6,15 +6,6 @@ use borrow.Author.Needs.{needs}
 use Rattle.relax.proofs.lowered_key.Statement.{statement}
 use Rattle.relax.proofs.lowered_key.Tie as tie
 
-div-if1 : tie.Need-div-if1
-div-if1 c = search needs
-
-mul-result : tie.Need-mul-result
-mul-result c = search needs
-
-add-result : tie.Need-add-result
-add-result c = search needs
-
 returns : tie.Need-returns
 returns c =
     let given = c .before .args in
@@ -26,4 +17,4 @@ returns-2 c =
     simp (le-ltb (given .sum) (given .cell / 2048) (omega arith))
 
 pub lowered-key-spec : {M : Type 1} → statement M
-lowered-key-spec = tie.close (tie.spec div-if1 mul-result add-result returns returns-2)
+lowered-key-spec = tie.close (tie.spec (λ c. search needs) (λ c. search needs) (λ c. search needs) returns returns-2)

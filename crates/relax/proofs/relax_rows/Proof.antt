@@ -18,12 +18,6 @@ loop-holds c =
     let start = c .before .before .before .before .before in
     going-start (start .pre .1 .1 .0) (start .pre .1 .1 .1 .1)
 
-mul-relax-row : tie.Need-mul-relax-row Inv-loop μ-loop
-mul-relax-row c = search needs
-
-shared-slice-read-relax-row : tie.Need-shared-slice-read-relax-row Inv-loop μ-loop
-shared-slice-read-relax-row c = search needs
-
 relax-row-requires : tie.Need-relax-row-requires Inv-loop μ-loop
 relax-row-requires c κs =
     let turn = c .before .before .before .before .before in
@@ -32,12 +26,6 @@ relax-row-requires c κs =
     let target = going-target now (c .before .before .before .before .loop-test .taken) (asked .1 .1 .1 .0) in
     (asked .0, (asked .1 .0, (now .room, target)))
 
-add-i : tie.Need-add-i Inv-loop μ-loop
-add-i c = search needs
-
-loop-less : tie.Need-loop-less Inv-loop μ-loop
-loop-less c = search needs
-
 loop-again : tie.Need-loop-again Inv-loop μ-loop
 loop-again c =
     let relaxed = c .before .before .before .before .before .before in
@@ -45,15 +33,6 @@ loop-again c =
     let turn = test .before in
     let asked = turn .before .before .before .before .before .before .pre in
     going-more (turn .loop .inv) (test .loop-test .taken) (asked .1 .1 .1 .0) (relaxed .relax-row .ensures)
-
-same-length : tie.Need-same-length Inv-loop μ-loop
-same-length c = search needs
-
-same-length-2 : tie.Need-same-length-2 Inv-loop μ-loop
-same-length-2 c = search needs
-
-same-length-3 : tie.Need-same-length-3 Inv-loop μ-loop
-same-length-3 c = search needs
 
 returns : tie.Need-returns Inv-loop μ-loop
 returns c = going-end (c .before .loop .inv) (c .loop-test .left)
@@ -65,13 +44,13 @@ relax-rows-spec =
     Inv-loop
     μ-loop
     loop-holds
-    mul-relax-row
-    shared-slice-read-relax-row
+    (λ c. search needs)
+    (λ c. search needs)
     relax-row-requires
-    add-i
-    loop-less
+    (λ c. search needs)
+    (λ c. search needs)
     loop-again
-    same-length
-    same-length-2
-    same-length-3
+    (λ c. search needs)
+    (λ c. search needs)
+    (λ c. search needs)
     returns)

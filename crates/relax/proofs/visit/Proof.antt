@@ -10,30 +10,6 @@ use Rattle.relax.proofs.visit.Tie as tie
 abbrev start : tie.After-end-of → tie.Start
 start c = c .before .before .before .before .before .before .before .before .before .before .before .before
 
-mul-cost : tie.Need-mul-cost
-mul-cost c = search needs
-
-slice-read-cost : tie.Need-slice-read-cost
-slice-read-cost c = search needs
-
-div-cost : tie.Need-div-cost
-div-cost c = search needs
-
-slot-of-requires : tie.Need-slot-of-requires
-slot-of-requires c κs = search needs
-
-mul-waiting : tie.Need-mul-waiting
-mul-waiting c = search needs
-
-slice-write-waiting : tie.Need-slice-write-waiting
-slice-write-waiting c = search needs
-
-begin-of-requires : tie.Need-begin-of-requires
-begin-of-requires c κs = search needs
-
-end-of-requires : tie.Need-end-of-requires
-end-of-requires c κs = search needs
-
 relax-rows-requires : tie.Need-relax-rows-requires
 relax-rows-requires c κs =
     let begun = start c in
@@ -51,18 +27,12 @@ relax-rows-requires c κs =
       ),
     )
 
-same-length : tie.Need-same-length
-same-length c = search needs
-
 same-length-2 : tie.Need-same-length-2
 same-length-2 c =
     let relaxed = c .before .before .before .before .before .before in
     let room = start (relaxed .before) .pre .1 .1 .0 in
     let after = relaxing-room (relaxed .relax-rows .ensures) (room-waiting _ _ room) in
     after .waiting-size ∙ sym (room .waiting-size)
-
-same-length-3 : tie.Need-same-length-3
-same-length-3 c = search needs
 
 returns : tie.Need-returns
 returns c =
@@ -76,16 +46,16 @@ pub visit-spec : {M : Type 1} → statement M
 visit-spec =
     tie.close
     (tie.spec
-    mul-cost
-    slice-read-cost
-    div-cost
-    slot-of-requires
-    mul-waiting
-    slice-write-waiting
-    begin-of-requires
-    end-of-requires
+    (λ c. search needs)
+    (λ c. search needs)
+    (λ c. search needs)
+    (λ c κs. search needs)
+    (λ c. search needs)
+    (λ c. search needs)
+    (λ c κs. search needs)
+    (λ c κs. search needs)
     relax-rows-requires
-    same-length
+    (λ c. search needs)
     same-length-2
-    same-length-3
+    (λ c. search needs)
     returns)

@@ -16,29 +16,17 @@ abbrev μ-loop : tie.MeasureT-loop
 loop-holds : tie.Need-loop-holds Inv-loop μ-loop
 loop-holds c = count-start _ _
 
-predecessor-at-requires : tie.Need-predecessor-at-requires Inv-loop μ-loop
-predecessor-at-requires c κs = search needs
-
-add-passed : tie.Need-add-passed Inv-loop μ-loop
-add-passed c = search needs
-
 returns : tie.Need-returns Inv-loop μ-loop
 returns c =
     let turn = c .before .before .before in
     count-source _ _ _ _ _ (turn .loop .inv) (c .before .before .loop-test .taken) (c .before .predecessor-at .ensures)
     (c .if1 .taken)
 
-cast-if2 : tie.Need-cast-if2 Inv-loop μ-loop
-cast-if2 c = search needs
-
 returns-2 : tie.Need-returns-2 Inv-loop μ-loop
 returns-2 c =
     let turn = c .before .before .before .before in
     count-lost _ _ _ _ _ (turn .loop .inv) (c .before .before .before .loop-test .taken)
     (c .before .before .predecessor-at .ensures) (c .before .if1 .left) (c .if2 .taken)
-
-loop-less : tie.Need-loop-less Inv-loop μ-loop
-loop-less c = search needs
 
 loop-again : tie.Need-loop-again Inv-loop μ-loop
 loop-again c =
@@ -56,11 +44,11 @@ count-stations-spec =
     Inv-loop
     μ-loop
     loop-holds
-    predecessor-at-requires
-    add-passed
+    (λ c κs. search needs)
+    (λ c. search needs)
     returns
-    cast-if2
+    (λ c. search needs)
     returns-2
-    loop-less
+    (λ c. search needs)
     loop-again
     returns-3)

@@ -7,12 +7,6 @@ use Rattle.route.proofs.Steps.{any-default}
 use Rattle.route.proofs.predecessor_at.Statement.{statement}
 use Rattle.route.proofs.predecessor_at.Tie as tie
 
-mul-result : tie.Need-mul-result
-mul-result c = search needs
-
-shared-slice-read-result : tie.Need-shared-slice-read-result
-shared-slice-read-result c = search needs
-
 returns : tie.Need-returns
 returns c = any-default (now (c .before .before .args .preds)) _ _ _ (c .before .if1 .taken)
 
@@ -20,4 +14,4 @@ returns-2 : tie.Need-returns-2
 returns-2 c = sym (List·getD-eq-default (now (c .before .args .preds)) _ (c .if1 .left))
 
 pub predecessor-at-spec : {M : Type 1} → statement M
-predecessor-at-spec = tie.close (tie.spec mul-result shared-slice-read-result returns returns-2)
+predecessor-at-spec = tie.close (tie.spec (λ c. search needs) (λ c. search needs) returns returns-2)

@@ -10,17 +10,11 @@ returns c = call-many _ _ _ (c .if1 .taken)
 returns-2 : tie.Need-returns-2
 returns-2 c = call-no-station _ _ _ (c .if2 .taken)
 
-predecessor-at-requires : tie.Need-predecessor-at-requires
-predecessor-at-requires c κs = search needs
-
 returns-3 : tie.Need-returns-3
 returns-3 c =
     let told = c .before in
     call-none _ _ _ (told .before .before .if1 .left) (told .before .if2 .left) _ (told .predecessor-at .ensures)
     (c .if3 .taken)
-
-count-stations-requires : tie.Need-count-stations-requires
-count-stations-requires c κs = search needs
 
 returns-4 : tie.Need-returns-4
 returns-4 c =
@@ -34,12 +28,6 @@ returns-5 c =
     call-short _ _ _ (told .before .before .if1 .left) (told .before .if2 .left) _ (told .predecessor-at .ensures)
     (c .before .before .before .if3 .left) _ (c .before .before .count-stations .ensures) (c .before .if4 .left)
     (c .if5 .taken)
-
-write-stations-requires : tie.Need-write-stations-requires
-write-stations-requires c κs = search needs
-
-same-length : tie.Need-same-length
-same-length c = search needs
 
 returns-6 : tie.Need-returns-6
 returns-6 c =
@@ -55,11 +43,11 @@ route-spec =
     (tie.spec
     returns
     returns-2
-    predecessor-at-requires
+    (λ c κs. search needs)
     returns-3
-    count-stations-requires
+    (λ c κs. search needs)
     returns-4
     returns-5
-    write-stations-requires
-    same-length
+    (λ c κs. search needs)
+    (λ c. search needs)
     returns-6)

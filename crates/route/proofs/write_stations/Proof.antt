@@ -15,27 +15,9 @@ abbrev μ-loop : tie.MeasureT-loop
 loop-holds : tie.Need-loop-holds Inv-loop μ-loop
 loop-holds c = write-start _ _ _ _ (c .before .before .pre)
 
-sub-left : tie.Need-sub-left Inv-loop μ-loop
-sub-left c = search needs
-
-mul-out : tie.Need-mul-out Inv-loop μ-loop
-mul-out c = search needs
-
-slice-write-out : tie.Need-slice-write-out Inv-loop μ-loop
-slice-write-out c = search needs
-
-predecessor-at-requires : tie.Need-predecessor-at-requires Inv-loop μ-loop
-predecessor-at-requires c κs = search needs
-
-loop-less : tie.Need-loop-less Inv-loop μ-loop
-loop-less c = search needs
-
 loop-again : tie.Need-loop-again Inv-loop μ-loop
 loop-again c =
     write-more (c .before .before .loop .inv) (c .before .loop-test .taken) (c .predecessor-at .ensures)
-
-same-length : tie.Need-same-length Inv-loop μ-loop
-same-length c = search needs
 
 returns : tie.Need-returns Inv-loop μ-loop
 returns c = write-end (c .before .loop .inv) (c .loop-test .left)
@@ -47,11 +29,11 @@ write-stations-spec =
     Inv-loop
     μ-loop
     loop-holds
-    sub-left
-    mul-out
-    slice-write-out
-    predecessor-at-requires
-    loop-less
+    (λ c. search needs)
+    (λ c. search needs)
+    (λ c. search needs)
+    (λ c κs. search needs)
+    (λ c. search needs)
     loop-again
-    same-length
+    (λ c. search needs)
     returns)

@@ -21,17 +21,8 @@ module _ (here : tie.After-of-check) where
   numbered : here .of-check .result ≡ ofCheck (wholeCheck image)
   numbered = here .of-check .ensures ∙ ap ofCheck (here .before .check .ensures)
 
-check-requires : tie.Need-check-requires
-check-requires c κs = search needs
-
-of-check-requires : tie.Need-of-check-requires
-of-check-requires c κs = search needs
-
 tell-requires : tie.Need-tell-requires
 tell-requires c κs = subst Small (sym (numbered (c .before))) (small-check (image (c .before)))
-
-same-length : tie.Need-same-length
-same-length c = search needs
 
 returns : tie.Need-returns
 returns c =
@@ -41,4 +32,4 @@ returns c =
 
 pub yard-check-spec : {M : Type 1} → statement M
 yard-check-spec =
-    tie.close (tie.spec check-requires of-check-requires tell-requires same-length returns)
+    tie.close (tie.spec (λ c κs. search needs) (λ c κs. search needs) tell-requires (λ c. search needs) returns)

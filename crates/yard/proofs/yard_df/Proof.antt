@@ -24,28 +24,10 @@ module _ (searched : tie.After-df) where
   bytes : Bytes (q .image)
   bytes i = omega (arith, known .shared-slice-known .given i)
 
-df-requires : tie.Need-df-requires
-df-requires c κs = search needs
-
 tell-search-requires : tie.Need-tell-search-requires
 tell-search-requires c κs =
     let searched = c .before .before .before .before .before .before .before .before .before in
     small-numbers true (q searched) (t searched) _ _ (searched .df .ensures .promised .outcome) (bytes searched)
-
-same-length : tie.Need-same-length
-same-length c = search needs
-
-same-length-2 : tie.Need-same-length-2
-same-length-2 c = search needs
-
-same-length-3 : tie.Need-same-length-3
-same-length-3 c = search needs
-
-same-length-4 : tie.Need-same-length-4
-same-length-4 c = search needs
-
-same-length-5 : tie.Need-same-length-5
-same-length-5 c = search needs
 
 returns : tie.Need-returns
 returns c =
@@ -60,11 +42,11 @@ pub yard-df-spec : {M : Type 1} → statement M
 yard-df-spec =
     tie.close
     (tie.spec
-    df-requires
+    (λ c κs. search needs)
     tell-search-requires
-    same-length
-    same-length-2
-    same-length-3
-    same-length-4
-    same-length-5
+    (λ c. search needs)
+    (λ c. search needs)
+    (λ c. search needs)
+    (λ c. search needs)
+    (λ c. search needs)
     returns)

@@ -22,22 +22,10 @@ module _ (here : tie.After-of-route) where
   numbered : here .of-route .result ≡ ofRoute (handed-back .answer)
   numbered = here .of-route .ensures ∙ ap (λ (h : Handed). ofRoute (h .answer)) (after-route .route .ensures)
 
-route-requires : tie.Need-route-requires
-route-requires c κs = search needs
-
-of-route-requires : tie.Need-of-route-requires
-of-route-requires c κs = search needs
-
 tell-requires : tie.Need-tell-requires
 tell-requires c κs =
     let a = entry (c .before) .args in
     subst Small (sym (numbered (c .before))) (small-route (now (a .preds)) (a .station) (now (a .out)))
-
-same-length : tie.Need-same-length
-same-length c = search needs
-
-same-length-2 : tie.Need-same-length-2
-same-length-2 c = search needs
 
 returns : tie.Need-returns
 returns c =
@@ -50,4 +38,4 @@ returns c =
 pub yard-route-spec : {M : Type 1} → statement M
 yard-route-spec =
     tie.close
-    (tie.spec route-requires of-route-requires tell-requires same-length same-length-2 returns)
+    (tie.spec (λ c κs. search needs) (λ c κs. search needs) tell-requires (λ c. search needs) (λ c. search needs) returns)

@@ -9,9 +9,6 @@ use Rattle.coil.proofs.Turns.{turned-record, turned-none, turned-short}
 use Rattle.coil.proofs.program.answer_turn.Statement.{statement}
 use Rattle.coil.proofs.program.answer_turn.Tie as tie
 
-answer-record-requires : tie.Need-answer-record-requires
-answer-record-requires c κs = search needs
-
 returns : tie.Need-returns
 returns c =
     let a = c .before .before .before .before .before .args in
@@ -29,12 +26,6 @@ returns-2 c =
       omega arith,
     )
 
-slice-aggregate-put-text : tie.Need-slice-aggregate-put-text
-slice-aggregate-put-text c = search needs
-
-put-text-requires : tie.Need-put-text-requires
-put-text-requires c κs = search needs
-
 returns-3 : tie.Need-returns-3
 unfolding ascii
 returns-3 c =
@@ -50,9 +41,9 @@ pub answer-turn-spec : {M : Type 1} → statement M
 answer-turn-spec =
     tie.close
     (tie.spec
-    answer-record-requires
+    (λ c κs. search needs)
     returns
     returns-2
-    slice-aggregate-put-text
-    put-text-requires
+    (λ c. search needs)
+    (λ c κs. search needs)
     returns-3)

@@ -10,24 +10,6 @@ use Rattle.coil.proofs.Digits.{digits-most, from-first}
 use Rattle.coil.proofs.text.put_number.Statement.{statement}
 use Rattle.coil.proofs.text.put_number.Tie as tie
 
-put-text-requires : tie.Need-put-text-requires
-put-text-requires c κs = search needs
-
-slice-aggregate-spell : tie.Need-slice-aggregate-spell
-slice-aggregate-spell c = search needs
-
-spell-requires : tie.Need-spell-requires
-spell-requires c κs = search needs
-
-sub-put-text : tie.Need-sub-put-text
-sub-put-text c = search needs
-
-part-put-text-start : tie.Need-part-put-text-start
-part-put-text-start c = search needs
-
-part-put-text-end : tie.Need-part-put-text-end
-part-put-text-end c = search needs
-
 put-text-requires-2 : tie.Need-put-text-requires-2
 put-text-requires-2 c κs =
     let spelling = c .before .before .before .before in
@@ -37,9 +19,6 @@ put-text-requires-2 c κs =
     from-first (spelling .spell .last .1 .0) digits (spelling .spell .result) (spelling .spell .kept .1 .0)
     (spelling .spell .ensures .0) in
     rw is (omega (arith, digits-most 20 (start .args .n)))
-
-same-length : tie.Need-same-length
-same-length c = search needs
 
 returns : tie.Need-returns
 returns c =
@@ -63,12 +42,12 @@ pub put-number-spec : {M : Type 1} → statement M
 put-number-spec =
     tie.close
     (tie.spec
-    put-text-requires
-    slice-aggregate-spell
-    spell-requires
-    sub-put-text
-    part-put-text-start
-    part-put-text-end
+    (λ c κs. search needs)
+    (λ c. search needs)
+    (λ c κs. search needs)
+    (λ c. search needs)
+    (λ c. search needs)
+    (λ c. search needs)
     put-text-requires-2
-    same-length
+    (λ c. search needs)
     returns)

@@ -17,9 +17,6 @@ end-of-requires c κs =
     let start = c .before .before .before .before in
     omega (arith, start .pre .1 .1 .1 .size, start .pre .1 .1 .0, start .pre .1 .0 .few)
 
-same-length : tie.Need-same-length
-same-length c = search needs
-
 returns : tie.Need-returns
 returns c =
     let start = c .before .before .before .before .before .before in
@@ -51,9 +48,6 @@ cast-read-page-of c = omega (arith, p-below c)
 read-page-of-requires : tie.Need-read-page-of-requires
 read-page-of-requires c κs = let start = start (c .before) in (start .pre .1 .0, start .pre .1 .1 .1 .size)
 
-same-length-2 : tie.Need-same-length-2
-same-length-2 c = search needs
-
 returns-2 : tie.Need-returns-2
 returns-2 c =
     let known = c .before .before .before .before in
@@ -68,10 +62,10 @@ fetch-spec =
     tie.close
     (tie.spec
     end-of-requires
-    same-length
+    (λ c. search needs)
     returns
     page-at-requires
     cast-read-page-of
     read-page-of-requires
-    same-length-2
+    (λ c. search needs)
     returns-2)

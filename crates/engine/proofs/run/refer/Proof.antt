@@ -53,22 +53,10 @@ module _ (sought : tie.After-top) where
   abbrev stands : Stands q (start .args .count) places tables
   stands = start .pre .1 .1 .1 .1 .0
 
-top-requires : tie.Need-top-requires
-top-requires c κs = search needs
-
-same-length : tie.Need-same-length
-same-length c = search needs
-
 returns : tie.Need-returns
 returns c =
     let sought = c .before in
     (nobody-first (placing sought) (stands sought) (sought .top .ensures) (c .if1 .taken), stands sought, refl)
-
-station-of-requires : tie.Need-station-of-requires
-station-of-requires c κs = search needs
-
-page-at-requires : tie.Need-page-at-requires
-page-at-requires c κs = search needs
 
 -- Once the station and its page are known.
 module _ (known : tie.After-page-at) where
@@ -121,12 +109,6 @@ fetch-requires c κs =
     let known = c .before in
     let begun = start (found known) in
     (begun .pre .0, (begun .pre .1 .1 .0, (omega (arith, u-is known, u-inside known), begun .pre .1 .1 .1 .0)))
-
-enum-told : tie.Need-enum-told
-enum-told c = search needs
-
-station-count-requires : tie.Need-station-count-requires
-station-count-requires c κs = search needs
 
 -- Once the page is fetched.
 module _ (read : tie.After-fetch) where
@@ -189,26 +171,8 @@ module _ (worked : tie.After-work-page) where
 cast-t35 : tie.Need-cast-t35
 cast-t35 c = omega (arith, p-below (named (in-hand (c .before .before .before .before .before .before))))
 
-enum-known-number : tie.Need-enum-known-number
-enum-known-number c = search needs
-
 cast-t36 : tie.Need-cast-t36
 cast-t36 c = omega (arith, p-below (c .before .before .before .before .before .before .before))
-
-same-length-2 : tie.Need-same-length-2
-same-length-2 c = search needs
-
-same-length-3 : tie.Need-same-length-3
-same-length-3 c = search needs
-
-same-length-4 : tie.Need-same-length-4
-same-length-4 c = search needs
-
-same-length-5 : tie.Need-same-length-5
-same-length-5 c = search needs
-
-same-length-6 : tie.Need-same-length-6
-same-length-6 c = search needs
 
 returns-2 : tie.Need-returns-2
 returns-2 c =
@@ -220,15 +184,6 @@ returns-2 c =
       listed (named limited),
       refl,
     )
-
-same-length-7 : tie.Need-same-length-7
-same-length-7 c = search needs
-
-same-length-8 : tie.Need-same-length-8
-same-length-8 c = search needs
-
-same-length-9 : tie.Need-same-length-9
-same-length-9 c = search needs
 
 returns-3 : tie.Need-returns-3
 returns-3 c =
@@ -246,28 +201,28 @@ pub refer-spec : {M : Type 1} → statement M
 refer-spec =
     tie.close
     (tie.spec
-    top-requires
-    same-length
+    (λ c κs. search needs)
+    (λ c. search needs)
     returns
-    station-of-requires
-    page-at-requires
+    (λ c κs. search needs)
+    (λ c κs. search needs)
     cast-list
     slice-write-list
     fetch-requires
-    enum-told
-    station-count-requires
+    (λ c. search needs)
+    (λ c κs. search needs)
     turns-of-requires
     work-page-requires
     cast-t35
-    enum-known-number
+    (λ c. search needs)
     cast-t36
-    same-length-2
-    same-length-3
-    same-length-4
-    same-length-5
-    same-length-6
+    (λ c. search needs)
+    (λ c. search needs)
+    (λ c. search needs)
+    (λ c. search needs)
+    (λ c. search needs)
     returns-2
-    same-length-7
-    same-length-8
-    same-length-9
+    (λ c. search needs)
+    (λ c. search needs)
+    (λ c. search needs)
     returns-3)

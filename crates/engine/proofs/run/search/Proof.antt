@@ -17,12 +17,6 @@ use borrow.Author.Needs.{needs}
 use Rattle.engine.proofs.run.search.Statement.{statement}
 use Rattle.engine.proofs.run.search.Tie as tie
 
-directory-of-requires : tie.Need-directory-of-requires
-directory-of-requires c κs = search needs
-
-slice-aggregate-place : tie.Need-slice-aggregate-place
-slice-aggregate-place c = search needs
-
 -- The place where the directory is known.
 module _ (found : tie.After-directory-of) where
   abbrev start : tie.Start
@@ -53,18 +47,6 @@ module _ (settled : tie.After-place) where
 place-requires : tie.Need-place-requires
 place-requires c κs = (few (c .before), refl)
 
-cast-begin : tie.Need-cast-begin
-cast-begin c = search needs
-
-slice-aggregate-begin : tie.Need-slice-aggregate-begin
-slice-aggregate-begin c = search needs
-
-slice-aggregate-begin-2 : tie.Need-slice-aggregate-begin-2
-slice-aggregate-begin-2 c = search needs
-
-slice-aggregate-begin-3 : tie.Need-slice-aggregate-begin-3
-slice-aggregate-begin-3 c = search needs
-
 begin-requires : tie.Need-begin-requires
 begin-requires c κs =
     let settled = c .before .before .before .before .before .before in
@@ -80,18 +62,6 @@ begin-requires c κs =
       ),
     )
 
-slice-aggregate-run : tie.Need-slice-aggregate-run
-slice-aggregate-run c = search needs
-
-slice-aggregate-run-2 : tie.Need-slice-aggregate-run-2
-slice-aggregate-run-2 c = search needs
-
-slice-aggregate-run-3 : tie.Need-slice-aggregate-run-3
-slice-aggregate-run-3 c = search needs
-
-slice-aggregate-run-4 : tie.Need-slice-aggregate-run-4
-slice-aggregate-run-4 c = search needs
-
 run-requires : tie.Need-run-requires
 run-requires c κs =
     let begun = c .before .before .before .before .before .before .before .before .before .before in
@@ -103,32 +73,23 @@ run-requires c κs =
     (start .pre .1 .0) (placed settled) refl (left .0 ∙ ap (λ cells. set cells source 0) (start .pre .1 .1 .0))
     (left .1 .0) (left .1 .1) (start .pre .1 .1 .1)
 
-same-length : tie.Need-same-length
-same-length c = search needs
-
-same-length-2 : tie.Need-same-length-2
-same-length-2 c = search needs
-
-returns : tie.Need-returns
-returns c = search needs
-
 pub search-spec : {M : Type 1} → statement M
 search-spec =
     tie.close
     (tie.spec
-    directory-of-requires
-    slice-aggregate-place
+    (λ c κs. search needs)
+    (λ c. search needs)
     place-requires
-    cast-begin
-    slice-aggregate-begin
-    slice-aggregate-begin-2
-    slice-aggregate-begin-3
+    (λ c. search needs)
+    (λ c. search needs)
+    (λ c. search needs)
+    (λ c. search needs)
     begin-requires
-    slice-aggregate-run
-    slice-aggregate-run-2
-    slice-aggregate-run-3
-    slice-aggregate-run-4
+    (λ c. search needs)
+    (λ c. search needs)
+    (λ c. search needs)
+    (λ c. search needs)
     run-requires
-    same-length
-    same-length-2
-    returns)
+    (λ c. search needs)
+    (λ c. search needs)
+    (λ c. search needs))

@@ -61,9 +61,6 @@ module _ (back : tie.After-least-between-arg Inv-loop μ-loop) where
 loop-holds : tie.Need-loop-holds Inv-loop μ-loop
 loop-holds c q k hand = turned-start hand
 
-station-of-requires : tie.Need-station-of-requires Inv-loop μ-loop
-station-of-requires c κs = search needs
-
 visit-requires : tie.Need-visit-requires Inv-loop μ-loop
 visit-requires c κs =
     let turn = c .before .before .before .before in
@@ -142,7 +139,7 @@ work-page-spec =
     Inv-loop
     μ-loop
     loop-holds
-    station-of-requires
+    (λ c κs. search needs)
     visit-requires
     first-slot-requires
     add-first-slot

@@ -27,20 +27,8 @@ returns : tie.Need-returns
 unfolding commandAt
 returns c = simp (le-leb _ _ (c .if1 .taken))
 
-shared-slice-read-code : tie.Need-shared-slice-read-code
-shared-slice-read-code c = search needs
-
-fits-requires : tie.Need-fits-requires
-fits-requires c κs = search needs
-
-add-word-within : tie.Need-add-word-within
-add-word-within c = search needs
-
 word-within-requires : tie.Need-word-within-requires
 word-within-requires c κs = omega (arith, move-ends c)
-
-add-word-within-2 : tie.Need-add-word-within-2
-add-word-within-2 c = search needs
 
 word-within-requires-2 : tie.Need-word-within-requires-2
 word-within-requires-2 c κs = omega (arith, move-ends (c .before))
@@ -62,12 +50,6 @@ returns-3 c =
     let a = inside .before .before .args in
     sym (command-cut (now (a .page)) (a .at) 2 (omega arith) (inside .if1 .left) (coded .if2 .taken)
     (leb-false _ _ (sym (c .before .fits2 .ensures) ∙ c .if3 .left)))
-
-fits-requires-2 : tie.Need-fits-requires-2
-fits-requires-2 c κs = search needs
-
-add-word-within-3 : tie.Need-add-word-within-3
-add-word-within-3 c = search needs
 
 word-within-requires-3 : tie.Need-word-within-requires-3
 word-within-requires-3 c κs = omega (arith, station-ends c)
@@ -110,16 +92,16 @@ command-at-spec =
     tie.close
     (tie.spec
     returns
-    shared-slice-read-code
-    fits-requires
-    add-word-within
+    (λ c. search needs)
+    (λ c κs. search needs)
+    (λ c. search needs)
     word-within-requires
-    add-word-within-2
+    (λ c. search needs)
     word-within-requires-2
     returns-2
     returns-3
-    fits-requires-2
-    add-word-within-3
+    (λ c κs. search needs)
+    (λ c. search needs)
     word-within-requires-3
     returns-4
     returns-5

@@ -10,9 +10,6 @@ use borrow.Author.Needs.{needs}
 use Rattle.page.proofs.commands.fits.Statement.{statement}
 use Rattle.page.proofs.commands.fits.Tie as tie
 
-length-of-requires : tie.Need-length-of-requires
-length-of-requires c κs = search needs
-
 add-result : tie.Need-add-result
 add-result c = omega (arith, c .length-of .ensures, length-most (c .before .before .args .code))
 
@@ -22,4 +19,4 @@ returns c =
     ap (λ n. leb (a .at + n) (length (now (a .page)))) (c .length-of .ensures)
 
 pub fits-spec : {M : Type 1} → statement M
-fits-spec = tie.close (tie.spec length-of-requires add-result returns)
+fits-spec = tie.close (tie.spec (λ c κs. search needs) add-result returns)

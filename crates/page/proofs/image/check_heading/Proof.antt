@@ -61,21 +61,9 @@ scan-decides c =
       ← (c .first-not-below .ensures),
     )
 
-refuse-requires : tie.Need-refuse-requires
-refuse-requires c κs = search needs
-
 returns : tie.Need-returns
 unfolding headingCheck
 returns c = c .refuse .ensures ∙ sym (simp (lt-ltb _ _ (c .before .if1 .taken)))
-
-station-count-requires : tie.Need-station-count-requires
-station-count-requires c κs = search needs
-
-outside-requires : tie.Need-outside-requires
-outside-requires c κs = search needs
-
-refuse-requires-2 : tie.Need-refuse-requires-2
-refuse-requires-2 c κs = search needs
 
 returns-2 : tie.Need-returns-2
 returns-2 c =
@@ -86,15 +74,6 @@ returns-2 c =
     (past-first (counted .before) ∙
     simp (← (counted .station-count .ensures .0), ← (tested .outside .ensures), c .before .if2 .taken))
 
-page-count-requires : tie.Need-page-count-requires
-page-count-requires c κs = search needs
-
-outside-requires-2 : tie.Need-outside-requires-2
-outside-requires-2 c κs = search needs
-
-refuse-requires-3 : tie.Need-refuse-requires-3
-refuse-requires-3 c κs = search needs
-
 returns-3 : tie.Need-returns-3
 returns-3 c =
     let tested = c .before .before in
@@ -103,18 +82,6 @@ returns-3 c =
     sym
     (past-second (counted .before) ∙
     simp (← (counted .page-count .ensures .0), ← (tested .outside2 .ensures), c .before .if3 .taken))
-
-add-if4 : tie.Need-add-if4
-add-if4 c = search needs
-
-mul-if4 : tie.Need-mul-if4
-mul-if4 c = search needs
-
-add-if4-2 : tie.Need-add-if4-2
-add-if4-2 c = search needs
-
-refuse-requires-4 : tie.Need-refuse-requires-4
-refuse-requires-4 c κs = search needs
 
 returns-4 : tie.Need-returns-4
 returns-4 c =
@@ -125,18 +92,6 @@ returns-4 c =
     sym
     (past-third (tested .before) ∙
     simp (← (stations .station-count .ensures .0), ← (pages .page-count .ensures .0), ne-eqb _ _ (tested .if4 .taken)))
-
-directory-of-requires : tie.Need-directory-of-requires
-directory-of-requires c κs = search needs
-
-first-not-below-requires : tie.Need-first-not-below-requires
-first-not-below-requires c κs = search needs
-
-cast-t17 : tie.Need-cast-t17
-cast-t17 c = search needs
-
-refuse-requires-5 : tie.Need-refuse-requires-5
-refuse-requires-5 c κs = search needs
 
 returns-5 : tie.Need-returns-5
 returns-5 c =
@@ -149,24 +104,24 @@ pub check-heading-spec : {M : Type 1} → statement M
 check-heading-spec =
     tie.close
     (tie.spec
-    refuse-requires
+    (λ c κs. search needs)
     returns
-    station-count-requires
-    outside-requires
-    refuse-requires-2
+    (λ c κs. search needs)
+    (λ c κs. search needs)
+    (λ c κs. search needs)
     returns-2
-    page-count-requires
-    outside-requires-2
-    refuse-requires-3
+    (λ c κs. search needs)
+    (λ c κs. search needs)
+    (λ c κs. search needs)
     returns-3
-    add-if4
-    mul-if4
-    add-if4-2
-    refuse-requires-4
+    (λ c. search needs)
+    (λ c. search needs)
+    (λ c. search needs)
+    (λ c κs. search needs)
     returns-4
-    directory-of-requires
-    first-not-below-requires
-    cast-t17
-    refuse-requires-5
+    (λ c κs. search needs)
+    (λ c κs. search needs)
+    (λ c. search needs)
+    (λ c κs. search needs)
     returns-5
     returns-6)

@@ -4,15 +4,9 @@ use borrow.Author.Needs.{needs}
 use Rattle.page.proofs.image.directory_of.Statement.{statement}
 use Rattle.page.proofs.image.directory_of.Tie as tie
 
-station-count-requires : tie.Need-station-count-requires
-station-count-requires c κs = search needs
-
-part-of-requires : tie.Need-part-of-requires
-part-of-requires c κs = search needs
-
 returns : tie.Need-returns
 unfolding directoryOf
 returns c = rw (← (c .before .station-count .ensures .0)) (c .part-of .ensures)
 
 pub directory-of-spec : {M : Type 1} → statement M
-directory-of-spec = tie.close (tie.spec station-count-requires part-of-requires returns)
+directory-of-spec = tie.close (tie.spec (λ c κs. search needs) (λ c κs. search needs) returns)

@@ -8,20 +8,11 @@ use Rattle.page.proofs.Parts.{page-short}
 use Rattle.page.proofs.image.page_of.Statement.{statement}
 use Rattle.page.proofs.image.page_of.Tie as tie
 
-station-count-requires : tie.Need-station-count-requires
-station-count-requires c κs = search needs
-
 add-from : tie.Need-add-from
 add-from c = omega arith
 
-mul-from : tie.Need-mul-from
-mul-from c = search needs
-
 add-from-2 : tie.Need-add-from-2
 add-from-2 c = omega (arith, c .before .before .fits .p)
-
-part-of-requires : tie.Need-part-of-requires
-part-of-requires c κs = search needs
 
 is-page : (c : tie.After-part-of)
     → let a = c .before .before .before .args in now (c .part-of .result) ≡ pageBytes (now (a .image)) (a .p)
@@ -36,4 +27,4 @@ returns c =
 pub page-of-spec : {M : Type 1} → statement M
 page-of-spec =
     tie.close
-    (tie.spec station-count-requires add-from mul-from add-from-2 part-of-requires returns)
+    (tie.spec (λ c κs. search needs) add-from (λ c. search needs) add-from-2 (λ c κs. search needs) returns)

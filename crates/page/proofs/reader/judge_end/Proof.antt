@@ -9,9 +9,6 @@ returns : tie.Need-returns
 unfolding judgeEnd
 returns c = simp (lt-ltb _ _ (c .if1 .taken))
 
-zero-from-requires : tie.Need-zero-from-requires
-zero-from-requires c κs = search needs
-
 returns-2 : tie.Need-returns-2
 unfolding judgeEnd
 returns-2 c = simp (le-ltb _ _ (c .before .before .if1 .left), ← (c .before .zero-from .ensures), c .if2 .taken)
@@ -21,4 +18,4 @@ unfolding judgeEnd
 returns-3 c = simp (le-ltb _ _ (c .before .before .if1 .left), ← (c .before .zero-from .ensures), c .if2 .left)
 
 pub judge-end-spec : {M : Type 1} → statement M
-judge-end-spec = tie.close (tie.spec returns zero-from-requires returns-2 returns-3)
+judge-end-spec = tie.close (tie.spec returns (λ c κs. search needs) returns-2 returns-3)

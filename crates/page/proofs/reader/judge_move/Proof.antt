@@ -22,9 +22,6 @@ time-left c =
       le-ltb _ _ (c .if4 .left),
     )
 
-cast-target : tie.Need-cast-target
-cast-target c = search needs
-
 returns : tie.Need-returns
 unfolding judgeMove
 returns c = simp (eq-eqb _ _ (c .if1 .taken))
@@ -32,9 +29,6 @@ returns c = simp (eq-eqb _ _ (c .if1 .taken))
 returns-2 : tie.Need-returns-2
 unfolding judgeMove
 returns-2 c = simp (ne-eqb _ _ (c .before .if1 .left), le-leb _ _ (c .if2 .taken))
-
-add-if3 : tie.Need-add-if3
-add-if3 c = search needs
 
 returns-3 : tie.Need-returns-3
 unfolding judgeMove
@@ -64,4 +58,4 @@ returns-6 c = sym (time-left (c .before .before) ∙ simp (ne-eqb _ _ (c .if5 .l
 pub judge-move-spec : {M : Type 1} → statement M
 judge-move-spec =
     tie.close
-    (tie.spec cast-target returns returns-2 add-if3 returns-3 returns-4 returns-5 returns-6)
+    (tie.spec (λ c. search needs) returns returns-2 (λ c. search needs) returns-3 returns-4 returns-5 returns-6)

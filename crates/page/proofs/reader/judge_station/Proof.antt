@@ -13,9 +13,6 @@ returns : tie.Need-returns
 unfolding judgeStation
 returns c after due = simp (le-leb _ _ (c .if1 .taken))
 
-add-first-slot : tie.Need-add-first-slot
-add-first-slot c = search needs
-
 first-slot-requires : tie.Need-first-slot-requires
 first-slot-requires c κs =
     let start = c .before .before .before in
@@ -55,7 +52,7 @@ judge-station-spec =
     tie.close
     (tie.spec
     returns
-    add-first-slot
+    (λ c. search needs)
     first-slot-requires
     returns-2
     slot-of-requires

@@ -33,37 +33,10 @@ module _ (read : tie.After-command-at) where
       let law = judged-as (now (a .page)) (a .at) size next (a .after) (a .least) in
       law (read .command-at .result) x answer (read .command-at .ensures) e judged
 
-command-at-requires : tie.Need-command-at-requires
-command-at-requires c κs = search needs
-
-enum-told : tie.Need-enum-told
-enum-told c = search needs
-
-add-first-slot : tie.Need-add-first-slot
-add-first-slot c = search needs
-
 first-slot-requires : tie.Need-first-slot-requires
 first-slot-requires c κs =
     let entry = start (c .before .before) in
     omega (arith, entry .pre .0 .size, entry .fits .p)
-
-judge-end-requires : tie.Need-judge-end-requires
-judge-end-requires c κs = search needs
-
-enum-known-v : tie.Need-enum-known-v
-enum-known-v c = search needs
-
-judge-station-requires : tie.Need-judge-station-requires
-judge-station-requires c κs = search needs
-
-enum-known-m : tie.Need-enum-known-m
-enum-known-m c = search needs
-
-judge-move-requires : tie.Need-judge-move-requires
-judge-move-requires c κs = search needs
-
-enum-known-number : tie.Need-enum-known-number
-enum-known-number c = search needs
 
 returns : tie.Need-returns
 unfolding judge
@@ -96,16 +69,16 @@ pub judged-at-spec : {M : Type 1} → statement M
 judged-at-spec =
     tie.close
     (tie.spec
-    command-at-requires
-    enum-told
-    add-first-slot
+    (λ c κs. search needs)
+    (λ c. search needs)
+    (λ c. search needs)
     first-slot-requires
-    judge-end-requires
-    enum-known-v
-    judge-station-requires
-    enum-known-m
-    judge-move-requires
-    enum-known-number
+    (λ c κs. search needs)
+    (λ c. search needs)
+    (λ c κs. search needs)
+    (λ c. search needs)
+    (λ c κs. search needs)
+    (λ c. search needs)
     returns
     returns-2
     returns-3

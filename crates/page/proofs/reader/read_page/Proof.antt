@@ -76,12 +76,6 @@ first-slot-requires c κs =
     let start = c .before .before .before .before in
     omega (arith, start .pre .0 .size, start .fits .p)
 
-mul-k : tie.Need-mul-k Inv-loop μ-loop Inv-page μ-page
-mul-k c = search needs
-
-add-k : tie.Need-add-k Inv-loop μ-loop Inv-page μ-page
-add-k c = search needs
-
 page-holds : tie.Need-page-holds Inv-loop μ-loop Inv-page μ-page
 page-holds c =
     let start = c .before .before .before .before .before in
@@ -94,9 +88,6 @@ loop-holds c = (omega arith, λ before l. l)
 judged-at-requires : tie.Need-judged-at-requires Inv-loop μ-loop Inv-page μ-page
 judged-at-requires c κs = let l = progress c in (l .placed, (l .short, l .due-slot))
 
-enum-known-m : tie.Need-enum-known-m Inv-loop μ-loop Inv-page μ-page
-enum-known-m c = search needs
-
 sub-lay-move : tie.Need-sub-lay-move Inv-loop μ-loop Inv-page μ-page
 sub-lay-move c = move-here (c .before .before) .begun
 
@@ -106,15 +97,6 @@ lay-move-requires c κs =
     let fits = move-here arm in
     let room = progress (arm .before .before .before) .room in
     (omega (arith, fits .small), (omega (arith, fits .room, room .page), omega (arith, fits .room, room .page)))
-
-cast-least : tie.Need-cast-least Inv-loop μ-loop Inv-page μ-page
-cast-least c = search needs
-
-add-least : tie.Need-add-least Inv-loop μ-loop Inv-page μ-page
-add-least c = search needs
-
-length-of-requires : tie.Need-length-of-requires Inv-loop μ-loop Inv-page μ-page
-length-of-requires c κs = search needs
 
 add-at : tie.Need-add-at Inv-loop μ-loop Inv-page μ-page
 add-at c =
@@ -137,15 +119,6 @@ loop-again c =
       λ before l. progress-move (loop .inv .1 before l) (found j _ (arm .m .given .1)) (laid .1) next (laid .0),
     )
 
-enum-known-v : tie.Need-enum-known-v Inv-loop μ-loop Inv-page μ-page
-enum-known-v c = search needs
-
-cast-station : tie.Need-cast-station Inv-loop μ-loop Inv-page μ-page
-cast-station c = search needs
-
-enum-told : tie.Need-enum-told Inv-loop μ-loop Inv-page μ-page
-enum-told c = search needs
-
 same-length : tie.Need-same-length Inv-loop μ-loop Inv-page μ-page
 same-length c = let loop = c .before .before .before in progress loop .room .size ∙ sym (start loop .pre .1 .1)
 
@@ -155,9 +128,6 @@ returns c =
     let l = progress (j .before) in
     let e = found j _ (c .enum-told .given .1) in
     (end-good l e, (end-laid l e, l .others))
-
-enum-known-fault : tie.Need-enum-known-fault Inv-loop μ-loop Inv-page μ-page
-enum-known-fault c = search needs
 
 begin-row-requires : tie.Need-begin-row-requires Inv-loop μ-loop Inv-page μ-page
 begin-row-requires c κs =
@@ -172,12 +142,6 @@ add-due c =
     let l = progress loop in
     let most = l .placed .most (start loop .args .p + 1) (omega (arith, l .room .page)) in
     omega (arith, l .due-slot .high, l .placed .few)
-
-add-after : tie.Need-add-after Inv-loop μ-loop Inv-page μ-page
-add-after c = search needs
-
-length-of-requires-2 : tie.Need-length-of-requires-2 Inv-loop μ-loop Inv-page μ-page
-length-of-requires-2 c κs = search needs
 
 add-at-2 : tie.Need-add-at-2 Inv-loop μ-loop Inv-page μ-page
 add-at-2 c =
@@ -217,30 +181,30 @@ read-page-spec =
     Inv-page
     μ-page
     first-slot-requires
-    mul-k
-    add-k
+    (λ c. search needs)
+    (λ c. search needs)
     page-holds
     loop-holds
     judged-at-requires
-    enum-known-m
+    (λ c. search needs)
     sub-lay-move
     lay-move-requires
-    cast-least
-    add-least
-    length-of-requires
+    (λ c. search needs)
+    (λ c. search needs)
+    (λ c κs. search needs)
     add-at
     loop-less
     loop-again
-    enum-known-v
-    cast-station
-    enum-told
+    (λ c. search needs)
+    (λ c. search needs)
+    (λ c. search needs)
     same-length
     returns
-    enum-known-fault
+    (λ c. search needs)
     begin-row-requires
     add-due
-    add-after
-    length-of-requires-2
+    (λ c. search needs)
+    (λ c κs. search needs)
     add-at-2
     page-less
     page-again

@@ -18,19 +18,10 @@ image checked = now (checked .before .before .args .image)
 heading-accepted : (c : tie.After-enum-told) → headingCheck (image (c .before .before)) ≡ accepted
 heading-accepted c = sym (c .before .before .check-heading .ensures) ∙ ap outcomeOf (c .enum-told .given .1)
 
-check-heading-requires : tie.Need-check-heading-requires
-check-heading-requires c κs = search needs
-
-enum-told : tie.Need-enum-told
-enum-told c = search needs
-
 check-pages-requires : tie.Need-check-pages-requires
 check-pages-requires c κs =
     let image-formed = formed (image (c .before .before)) (heading-accepted c) in
     (image-formed .stations-most, image-formed .pages-most)
-
-enum-known-refusal : tie.Need-enum-known-refusal
-enum-known-refusal c = search needs
 
 returns : tie.Need-returns
 returns c =
@@ -46,9 +37,9 @@ pub check-spec : {M : Type 1} → statement M
 check-spec =
     tie.close
     (tie.spec
-    check-heading-requires
-    enum-told
+    (λ c κs. search needs)
+    (λ c. search needs)
     check-pages-requires
-    enum-known-refusal
+    (λ c. search needs)
     returns
     returns-2)

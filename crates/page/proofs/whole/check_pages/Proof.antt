@@ -49,32 +49,14 @@ module _ (read : tie.After-read-page-of Inv-loop μ-loop) where
   verdict : (y : Verdict) → read .read-page-of .result ≡ y → verdictOf (readingOf (image before-loop) p) ≡ y
   verdict y e = sym (read .read-page-of .ensures .0) ∙ e
 
-directory-of-requires : tie.Need-directory-of-requires Inv-loop μ-loop
-directory-of-requires c κs = search needs
-
-slice-aggregate-place : tie.Need-slice-aggregate-place Inv-loop μ-loop
-slice-aggregate-place c = search needs
-
 place-requires : tie.Need-place-requires Inv-loop μ-loop
 place-requires c κs =
     let start = c .before .before .before in
     let e = ap length (c .before .directory-of .ensures) in
     (omega (arith, directory-most (now (start .args .image)), start .pre .0), refl)
 
-page-count-requires : tie.Need-page-count-requires Inv-loop μ-loop
-page-count-requires c κs = search needs
-
 loop-holds : tie.Need-loop-holds Inv-loop μ-loop
 loop-holds c = (ap (λ n. pagesFrom (image c) n 0) (sub-zero _), refl)
-
-cast-page : tie.Need-cast-page Inv-loop μ-loop
-cast-page c = search needs
-
-slice-aggregate-read-page-of : tie.Need-slice-aggregate-read-page-of Inv-loop μ-loop
-slice-aggregate-read-page-of c = search needs
-
-slice-aggregate-read-page-of-2 : tie.Need-slice-aggregate-read-page-of-2 Inv-loop μ-loop
-slice-aggregate-read-page-of-2 c = search needs
 
 read-page-of-requires : tie.Need-read-page-of-requires Inv-loop μ-loop
 read-page-of-requires c κs =
@@ -84,15 +66,6 @@ read-page-of-requires c κs =
           (placed .place .ensures),
       loop .inv .1,
     )
-
-enum-told : tie.Need-enum-told Inv-loop μ-loop
-enum-told c = search needs
-
-enum-known-number : tie.Need-enum-known-number Inv-loop μ-loop
-enum-known-number c = search needs
-
-refuse-requires : tie.Need-refuse-requires Inv-loop μ-loop
-refuse-requires c κs = search needs
 
 returns : tie.Need-returns Inv-loop μ-loop
 returns c =
@@ -135,18 +108,18 @@ check-pages-spec =
     (tie.spec
     Inv-loop
     μ-loop
-    directory-of-requires
-    slice-aggregate-place
+    (λ c κs. search needs)
+    (λ c. search needs)
     place-requires
-    page-count-requires
+    (λ c κs. search needs)
     loop-holds
-    cast-page
-    slice-aggregate-read-page-of
-    slice-aggregate-read-page-of-2
+    (λ c. search needs)
+    (λ c. search needs)
+    (λ c. search needs)
     read-page-of-requires
-    enum-told
-    enum-known-number
-    refuse-requires
+    (λ c. search needs)
+    (λ c. search needs)
+    (λ c κs. search needs)
     returns
     add-p
     loop-less

@@ -7,12 +7,6 @@ use Rattle.page.specs.Check.{readingOf}
 use Rattle.page.proofs.whole.read_page_of.Statement.{statement}
 use Rattle.page.proofs.whole.read_page_of.Tie as tie
 
-directory-of-requires : tie.Need-directory-of-requires
-directory-of-requires c κs = search needs
-
-page-of-requires : tie.Need-page-of-requires
-page-of-requires c κs = search needs
-
 read-page-requires : tie.Need-read-page-requires
 read-page-requires c κs =
     let start = c .before .before .before .before .before .before in (
@@ -20,9 +14,6 @@ read-page-requires c κs =
           (start .pre .0),
       (c .before .page-of .ensures .1, start .pre .1),
     )
-
-same-length : tie.Need-same-length
-same-length c = search needs
 
 returns : tie.Need-returns
 unfolding readingOf
@@ -35,4 +26,4 @@ returns c =
 pub read-page-of-spec : {M : Type 1} → statement M
 read-page-of-spec =
     tie.close
-    (tie.spec directory-of-requires page-of-requires read-page-requires same-length returns)
+    (tie.spec (λ c κs. search needs) (λ c κs. search needs) read-page-requires (λ c. search needs) returns)

@@ -11,21 +11,6 @@ use Rattle.search.proofs.calls.check_call.Tie as tie
 abbrev entry : tie.After-check-heading → tie.Start
 entry checked = checked .before .before .before .before .before .before
 
-check-heading-requires : tie.Need-check-heading-requires
-check-heading-requires c κs = search needs
-
-enum-told : tie.Need-enum-told
-enum-told c = search needs
-
-station-count-requires : tie.Need-station-count-requires
-station-count-requires c κs = search needs
-
-check-tables-requires : tie.Need-check-tables-requires
-check-tables-requires c κs = search needs
-
-enum-known-refusal : tie.Need-enum-known-refusal
-enum-known-refusal c = search needs
-
 returns : tie.Need-returns
 returns c =
     let counted = c .before in
@@ -49,10 +34,10 @@ pub check-call-spec : {M : Type 1} → statement M
 check-call-spec =
     tie.close
     (tie.spec
-    check-heading-requires
-    enum-told
-    station-count-requires
-    check-tables-requires
-    enum-known-refusal
+    (λ c κs. search needs)
+    (λ c. search needs)
+    (λ c κs. search needs)
+    (λ c κs. search needs)
+    (λ c. search needs)
     returns
     returns-2)

@@ -13,16 +13,10 @@ short entry =
     let a = entry .args in
     ltb (a .times) (a .n) || (ltb (a .preds) (a .n) || (ltb (a .marks) (a .n) || ltb (a .list) (a .n)))
 
-refuse-requires : tie.Need-refuse-requires
-refuse-requires c κs = search needs
-
 returns : tie.Need-returns
 returns c =
     let start = c .before .before in
     c .refuse .ensures ∙ no-source (start .args .n) (start .args .source) (short start) (omega (arith, c .before .if1))
-
-fits-requires : tie.Need-fits-requires
-fits-requires c κs = search needs
 
 returns-2 : tie.Need-returns-2
 returns-2 c =
@@ -30,9 +24,6 @@ returns-2 c =
     let start = tested .before .before in
     long-tables (start .args .n) (start .args .source) (short start) (omega (arith, tested .before .if1)) _
     (tested .fits2 .ensures) (c .if2 .taken)
-
-refuse-requires-2 : tie.Need-refuse-requires-2
-refuse-requires-2 c κs = search needs
 
 returns-3 : tie.Need-returns-3
 returns-3 c =
@@ -45,4 +36,4 @@ returns-3 c =
 pub check-tables-spec : {M : Type 1} → statement M
 check-tables-spec =
     tie.close
-    (tie.spec refuse-requires returns fits-requires returns-2 refuse-requires-2 returns-3)
+    (tie.spec (λ c κs. search needs) returns (λ c κs. search needs) returns-2 (λ c κs. search needs) returns-3)

@@ -46,9 +46,6 @@ module _ (counted : tie.After-station-count) where
       let is = counted .station-count .ensures .0 in
       (omega (arith, long .0), omega (arith, long .1), omega (arith, long .2), omega (arith, long .3))
 
-slice-aggregate-search : tie.Need-slice-aggregate-search
-slice-aggregate-search c = search needs
-
 search-requires : tie.Need-search-requires
 search-requires c κs =
     let start = c .before .before .before .before .before .before .before in
@@ -60,15 +57,6 @@ search-requires c κs =
         (refl, omega (arith, size, long-enough (q start) (t start) a .3)),
       ),
     )
-
-station-count-requires : tie.Need-station-count-requires
-station-count-requires c κs = search needs
-
-is-over-requires : tie.Need-is-over-requires
-is-over-requires c κs = search needs
-
-slice-aggregate-finish : tie.Need-slice-aggregate-finish
-slice-aggregate-finish c = search needs
 
 slice-relend-prefix-finish : tie.Need-slice-relend-prefix-finish
 slice-relend-prefix-finish c = enough (c .before .before) .0
@@ -110,21 +98,6 @@ finish-requires c κs =
       ),
     )
 
-answer-of-requires : tie.Need-answer-of-requires
-answer-of-requires c κs = search needs
-
-same-length : tie.Need-same-length
-same-length c = search needs
-
-same-length-2 : tie.Need-same-length-2
-same-length-2 c = search needs
-
-same-length-3 : tie.Need-same-length-3
-same-length-3 c = search needs
-
-same-length-4 : tie.Need-same-length-4
-same-length-4 c = search needs
-
 returns : tie.Need-returns
 returns c =
     let finished = c .before .before .before .before .before .before .before in
@@ -148,11 +121,11 @@ pub on-map-spec : {M : Type 1} → statement M
 on-map-spec =
     tie.close
     (tie.spec
-    slice-aggregate-search
+    (λ c. search needs)
     search-requires
-    station-count-requires
-    is-over-requires
-    slice-aggregate-finish
+    (λ c κs. search needs)
+    (λ c κs. search needs)
+    (λ c. search needs)
     slice-relend-prefix-finish
     slice-aggregate-finish-2
     slice-relend-prefix-finish-2
@@ -160,9 +133,9 @@ on-map-spec =
     slice-relend-prefix-finish-3
     slice-aggregate-finish-4
     finish-requires
-    answer-of-requires
-    same-length
-    same-length-2
-    same-length-3
-    same-length-4
+    (λ c κs. search needs)
+    (λ c. search needs)
+    (λ c. search needs)
+    (λ c. search needs)
+    (λ c. search needs)
     returns)

@@ -25,29 +25,8 @@ passed : (whole : tie.After-enum-told)
     → callCheck (q (whole .before .before)) (t (whole .before .before)) ≡ accepted
 passed whole = sym (whole .before .before .check-call .ensures) ∙ ap outcomeOf (whole .enum-told .given .1)
 
-check-call-requires : tie.Need-check-call-requires
-check-call-requires c κs = search needs
-
-enum-told : tie.Need-enum-told
-enum-told c = search needs
-
 on-map-requires : tie.Need-on-map-requires
 on-map-requires c κs = passed (c .before .before .before .before)
-
-enum-known-refusal : tie.Need-enum-known-refusal
-enum-known-refusal c = search needs
-
-same-length : tie.Need-same-length
-same-length c = search needs
-
-same-length-2 : tie.Need-same-length-2
-same-length-2 c = search needs
-
-same-length-3 : tie.Need-same-length-3
-same-length-3 c = search needs
-
-same-length-4 : tie.Need-same-length-4
-same-length-4 c = search needs
 
 returns : tie.Need-returns
 returns c =
@@ -56,18 +35,6 @@ returns c =
     let checked = whole .before .before in
     call-made (searchOf (entry checked .args .query .df)) (q checked) (t checked) _ (passed whole)
     (searched .on-map .ensures)
-
-same-length-5 : tie.Need-same-length-5
-same-length-5 c = search needs
-
-same-length-6 : tie.Need-same-length-6
-same-length-6 c = search needs
-
-same-length-7 : tie.Need-same-length-7
-same-length-7 c = search needs
-
-same-length-8 : tie.Need-same-length-8
-same-length-8 c = search needs
 
 returns-2 : tie.Need-returns-2
 returns-2 c =
@@ -79,17 +46,17 @@ pub search-spec : {M : Type 1} → statement M
 search-spec =
     tie.close
     (tie.spec
-    check-call-requires
-    enum-told
+    (λ c κs. search needs)
+    (λ c. search needs)
     on-map-requires
-    enum-known-refusal
-    same-length
-    same-length-2
-    same-length-3
-    same-length-4
+    (λ c. search needs)
+    (λ c. search needs)
+    (λ c. search needs)
+    (λ c. search needs)
+    (λ c. search needs)
     returns
-    same-length-5
-    same-length-6
-    same-length-7
-    same-length-8
+    (λ c. search needs)
+    (λ c. search needs)
+    (λ c. search needs)
+    (λ c. search needs)
     returns-2)

@@ -5,12 +5,6 @@ use Rattle.search.specs.Finishing.{replyTo}
 use Rattle.search.proofs.finish.answer_of.Statement.{statement}
 use Rattle.search.proofs.finish.answer_of.Tie as tie
 
-enum-known-ended : tie.Need-enum-known-ended
-enum-known-ended c = search needs
-
-enum-known-ended-2 : tie.Need-enum-known-ended-2
-enum-known-ended-2 c = search needs
-
 returns : tie.Need-returns
 returns c =
     let reached = c .before .before .before .args .reached in
@@ -22,4 +16,4 @@ returns-2 c =
     ap (λ e. replyTo e reached) (sym (c .before .ended2 .given .1))
 
 pub answer-of-spec : {M : Type 1} → statement M
-answer-of-spec = tie.close (tie.spec enum-known-ended enum-known-ended-2 returns returns-2)
+answer-of-spec = tie.close (tie.spec (λ c. search needs) (λ c. search needs) returns returns-2)

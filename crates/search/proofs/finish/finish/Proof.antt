@@ -37,15 +37,6 @@ loop-holds c =
     let a = c .before .before .before .before .args in
     finishing-none (a .over) (now (a .cells)) (now (a .times)) (now (a .preds)) (now (a .marks))
 
-mul-shown : tie.Need-mul-shown Inv-loop μ-loop
-mul-shown c = search needs
-
-shared-slice-read-shown : tie.Need-shared-slice-read-shown Inv-loop μ-loop
-shared-slice-read-shown c = search needs
-
-shown-requires : tie.Need-shown-requires Inv-loop μ-loop
-shown-requires c κs = search needs
-
 write-station-requires : tie.Need-write-station-requires Inv-loop μ-loop
 write-station-requires c κs =
     let tested = c .before .before .before .before .before in
@@ -107,9 +98,9 @@ finish-spec =
     Inv-loop
     μ-loop
     loop-holds
-    mul-shown
-    shared-slice-read-shown
-    shown-requires
+    (λ c. search needs)
+    (λ c. search needs)
+    (λ c κs. search needs)
     write-station-requires
     add-reached
     add-v

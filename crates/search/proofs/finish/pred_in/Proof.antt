@@ -7,12 +7,6 @@ use Rattle.search.proofs.finish.pred_in.Tie as tie
 returns : tie.Need-returns
 returns c = rw (eq-eqb _ 0 (c .if1 .taken))
 
-cast-if2 : tie.Need-cast-if2
-cast-if2 c = search needs
-
-cast-result : tie.Need-cast-result
-cast-result c = search needs
-
 returns-2 : tie.Need-returns-2
 returns-2 c = rw (ne-eqb _ 0 (c .before .if1 .left), lt-ltb _ _ (c .if2 .taken))
 
@@ -20,4 +14,4 @@ returns-3 : tie.Need-returns-3
 returns-3 c = rw (ne-eqb _ 0 (c .before .if1 .left), le-ltb _ _ (c .if2 .left))
 
 pub pred-in-spec : {M : Type 1} → statement M
-pred-in-spec = tie.close (tie.spec returns cast-if2 cast-result returns-2 returns-3)
+pred-in-spec = tie.close (tie.spec returns (λ c. search needs) (λ c. search needs) returns-2 returns-3)

@@ -3,11 +3,5 @@ use borrow.Author.Needs.{needs}
 use Rattle.search.proofs.finish.shown.Statement.{statement}
 use Rattle.search.proofs.finish.shown.Tie as tie
 
-returns : tie.Need-returns
-returns c = search needs
-
-returns-2 : tie.Need-returns-2
-returns-2 c = search needs
-
 pub shown-spec : {M : Type 1} → statement M
-shown-spec = tie.close (tie.spec returns returns-2)
+shown-spec = tie.close (tie.spec (λ c. search needs) (λ c. search needs))

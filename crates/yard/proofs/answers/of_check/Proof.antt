@@ -6,18 +6,6 @@ use borrow.Author.Needs.{needs}
 use Rattle.yard.proofs.answers.of_check.Statement.{statement}
 use Rattle.yard.proofs.answers.of_check.Tie as tie
 
-enum-told : tie.Need-enum-told
-enum-told c = search needs
-
-numbers-requires : tie.Need-numbers-requires
-numbers-requires c κs = search needs
-
-enum-known-checked : tie.Need-enum-known-checked
-enum-known-checked c = search needs
-
-of-refusal-requires : tie.Need-of-refusal-requires
-of-refusal-requires c κs = search needs
-
 returns : tie.Need-returns
 returns c = c .numbers .ensures ∙ ap (λ x. ofCheck (outcomeOf x)) (sym (c .before .enum-told .given .1))
 
@@ -27,4 +15,4 @@ returns-2 c = c .of-refusal .ensures ∙ ap (λ x. ofCheck (outcomeOf x)) (sym (
 pub of-check-spec : {M : Type 1} → statement M
 of-check-spec =
     tie.close
-    (tie.spec enum-told numbers-requires enum-known-checked of-refusal-requires returns returns-2)
+    (tie.spec (λ c. search needs) (λ c κs. search needs) (λ c. search needs) (λ c κs. search needs) returns returns-2)

@@ -11,27 +11,6 @@ use Rattle.yard.proofs.answers.of_refusal.Tie as tie
 abbrev by-place : tie.Start → Place → Numbers
 by-place start place = let a = start .args in ofOutcome (refused (a .refusal .number) (placeOf place)) (a .count) 0
 
-enum-told : tie.Need-enum-told
-enum-told c = search needs
-
-numbers-requires : tie.Need-numbers-requires
-numbers-requires c κs = search needs
-
-enum-known-place : tie.Need-enum-known-place
-enum-known-place c = search needs
-
-numbers-requires-2 : tie.Need-numbers-requires-2
-numbers-requires-2 c κs = search needs
-
-enum-known-place-2 : tie.Need-enum-known-place-2
-enum-known-place-2 c = search needs
-
-cast-numbers : tie.Need-cast-numbers
-cast-numbers c = search needs
-
-numbers-requires-3 : tie.Need-numbers-requires-3
-numbers-requires-3 c κs = search needs
-
 returns : tie.Need-returns
 returns c =
     c .numbers .ensures ∙ ap (by-place (c .before .before .before)) (sym (c .before .enum-told .given .1))
@@ -50,13 +29,13 @@ pub of-refusal-spec : {M : Type 1} → statement M
 of-refusal-spec =
     tie.close
     (tie.spec
-    enum-told
-    numbers-requires
-    enum-known-place
-    numbers-requires-2
-    enum-known-place-2
-    cast-numbers
-    numbers-requires-3
+    (λ c. search needs)
+    (λ c κs. search needs)
+    (λ c. search needs)
+    (λ c κs. search needs)
+    (λ c. search needs)
+    (λ c. search needs)
+    (λ c κs. search needs)
     returns
     returns-2
     returns-3)

@@ -6,24 +6,6 @@ use borrow.Author.Needs.{needs}
 use Rattle.yard.proofs.answers.of_route.Statement.{statement}
 use Rattle.yard.proofs.answers.of_route.Tie as tie
 
-enum-known-answer : tie.Need-enum-known-answer
-enum-known-answer c = search needs
-
-numbers-requires : tie.Need-numbers-requires
-numbers-requires c κs = search needs
-
-enum-told : tie.Need-enum-told
-enum-told c = search needs
-
-numbers-requires-2 : tie.Need-numbers-requires-2
-numbers-requires-2 c κs = search needs
-
-enum-known-answer-2 : tie.Need-enum-known-answer-2
-enum-known-answer-2 c = search needs
-
-numbers-requires-3 : tie.Need-numbers-requires-3
-numbers-requires-3 c κs = search needs
-
 returns : tie.Need-returns
 returns c = c .numbers .ensures ∙ ap (λ x. ofRoute (meaning x)) (sym (c .before .before .answer .given .1))
 
@@ -37,12 +19,12 @@ pub of-route-spec : {M : Type 1} → statement M
 of-route-spec =
     tie.close
     (tie.spec
-    enum-known-answer
-    numbers-requires
-    enum-told
-    numbers-requires-2
-    enum-known-answer-2
-    numbers-requires-3
+    (λ c. search needs)
+    (λ c κs. search needs)
+    (λ c. search needs)
+    (λ c κs. search needs)
+    (λ c. search needs)
+    (λ c κs. search needs)
     returns
     returns-2
     returns-3)

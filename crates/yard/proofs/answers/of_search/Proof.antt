@@ -6,18 +6,6 @@ use borrow.Author.Needs.{needs}
 use Rattle.yard.proofs.answers.of_search.Statement.{statement}
 use Rattle.yard.proofs.answers.of_search.Tie as tie
 
-enum-known-answer : tie.Need-enum-known-answer
-enum-known-answer c = search needs
-
-numbers-requires : tie.Need-numbers-requires
-numbers-requires c κs = search needs
-
-enum-known-answer-2 : tie.Need-enum-known-answer-2
-enum-known-answer-2 c = search needs
-
-of-refusal-requires : tie.Need-of-refusal-requires
-of-refusal-requires c κs = search needs
-
 returns : tie.Need-returns
 returns c = c .numbers .ensures ∙ ap (λ x. ofSearch (replyOf x)) (sym (c .before .before .answer .given .1))
 
@@ -28,9 +16,9 @@ pub of-search-spec : {M : Type 1} → statement M
 of-search-spec =
     tie.close
     (tie.spec
-    enum-known-answer
-    numbers-requires
-    enum-known-answer-2
-    of-refusal-requires
+    (λ c. search needs)
+    (λ c κs. search needs)
+    (λ c. search needs)
+    (λ c κs. search needs)
     returns
     returns-2)

@@ -7,28 +7,13 @@ use borrow.Author.Needs.{needs}
 use Rattle.yard.proofs.answers.tell.Statement.{statement}
 use Rattle.yard.proofs.answers.tell.Tie as tie
 
-cast-result : tie.Need-cast-result
-cast-result c = search needs
-
 returns : tie.Need-returns
 returns c = put-short (c .before .before .args .n) (now (c .before .before .args .answer)) (c .before .if1 .taken)
-
-cast-answer : tie.Need-cast-answer
-cast-answer c = search needs
-
-slice-write-answer : tie.Need-slice-write-answer
-slice-write-answer c = search needs
-
-cast-answer-2 : tie.Need-cast-answer-2
-cast-answer-2 c = search needs
 
 slice-write-answer-2 : tie.Need-slice-write-answer-2
 slice-write-answer-2 c =
     let l = now (c .before .before .before .args .answer) in
     omega (arith, length-set l 0 (c .before .before .before .args .n .count), c .before .before .if1 .left)
-
-cast-answer-3 : tie.Need-cast-answer-3
-cast-answer-3 c = search needs
 
 slice-write-answer-3 : tie.Need-slice-write-answer-3
 slice-write-answer-3 c =
@@ -41,18 +26,6 @@ slice-write-answer-3 c =
       c .before .before .before .if1 .left,
     )
 
-cast-answer-4 : tie.Need-cast-answer-4
-cast-answer-4 c = search needs
-
-slice-write-answer-4 : tie.Need-slice-write-answer-4
-slice-write-answer-4 c = search needs
-
-cast-result-2 : tie.Need-cast-result-2
-cast-result-2 c = search needs
-
-same-length : tie.Need-same-length
-same-length c = search needs
-
 returns-2 : tie.Need-returns-2
 returns-2 c =
     let long = c .before .before .before .before .before in
@@ -63,16 +36,16 @@ pub tell-spec : {M : Type 1} → statement M
 tell-spec =
     tie.close
     (tie.spec
-    cast-result
+    (λ c. search needs)
     returns
-    cast-answer
-    slice-write-answer
-    cast-answer-2
+    (λ c. search needs)
+    (λ c. search needs)
+    (λ c. search needs)
     slice-write-answer-2
-    cast-answer-3
+    (λ c. search needs)
     slice-write-answer-3
-    cast-answer-4
-    slice-write-answer-4
-    cast-result-2
-    same-length
+    (λ c. search needs)
+    (λ c. search needs)
+    (λ c. search needs)
+    (λ c. search needs)
     returns-2)
