@@ -1,8 +1,6 @@
 -- The line of a record's parts and of the reply to it is the record's line; and the reply is the same whatever stands
 -- in the tables that the search is lent, as long as they have room for the map's stations or lack it alike.
-use mathlib.Core.Path.{_≡_, refl}
-use mathlib.Core.List.{List}
-use Prim.Native.Nat.{ℕ}
+use Rattle.common.proofs.Ground.{_≡_, refl, List, ℕ}
 use Rattle.net.specs.Net.{Frame}
 use Rattle.net.specs.Search as net
 use Rattle.net.specs.Search.{State, Halt, going, dfSearch}

@@ -1,14 +1,7 @@
 -- What `decimal` is: read back, digit by digit, it is the number; it begins with no zero, but for the number 0, which
 -- is one digit. Both by induction on the number of digits.
-use mathlib.Core.Path.{_≡_, refl, _∙_}
-use mathlib.Core.Bool.{Bool, true, false}
-use mathlib.Core.List.{List, [], _∷_, _++_}
-use Prim.Native.Nat.{ℕ, zero, suc, _+_, _-_, _*_, _/_, _%_, _^_, _≤_, _<_}
-use native.Mathlib.Nat.{div-add-mod'}
-use native.Mathlib.Omega.{arith}
-use lib.Dec.{ltb}
-use lib.ListN.{getD}
-use borrow.Author.Tests.{ltb-true, ltb-false}
+use Rattle.common.proofs.Ground.{_≡_, refl, _∙_, Bool, true, false, List, [], _∷_, _++_, ℕ, zero, suc, _+_, _-_, _*_}
+use Rattle.common.proofs.Ground.{_/_, _%_, _^_, _≤_, _<_, arith, div-add-mod', getD, ltb, ltb-true, ltb-false}
 use Rattle.common.specs.Pick.{pick}
 use Rattle.coil.specs.Line.{ascii, digits, decimal}
 use Rattle.coil.proofs.Digits.{shorter}

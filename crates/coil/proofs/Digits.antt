@@ -1,15 +1,9 @@
 -- A number's digits, as `spell` writes them: from the last to the first, those of the rest of the number belonging
 -- before them.
-use mathlib.Core.Path.{_≡_, ap, sym, _∙_}
-use mathlib.Core.Bool.{Bool, true, false}
-use mathlib.Core.List.{List, [], _∷_, _++_, append-assoc, append-nil}
-use Prim.Native.Nat.{ℕ, zero, suc, _+_, _-_, _/_, _%_, _^_, _≤_, _<_}
-use native.Mathlib.Nat.{pow-suc, div-lt-iff-lt-mul}
-use native.Mathlib.Omega.{arith}
-use lib.Dec.{ltb}
-use lib.ListN.{length, take, drop, set, length-drop, length-append, length-set, drop-of-length-le}
-use lib.Seq.{take-all, drop-cons, drop-set-lt, getD-set-same}
-use borrow.Author.Tests.{lt-ltb, le-ltb}
+use Rattle.common.proofs.Ground.{_≡_, ap, sym, _∙_, Bool, true, false, List, [], _∷_, _++_, append-assoc, append-nil}
+use Rattle.common.proofs.Ground.{ℕ, zero, suc, _+_, _-_, _/_, _%_, _^_, _≤_, _<_, arith, pow-suc, div-lt-iff-lt-mul}
+use Rattle.common.proofs.Ground.{length, take, drop, set, length-drop, length-append, length-set, drop-of-length-le}
+use Rattle.common.proofs.Ground.{take-all, drop-cons, drop-set-lt, getD-set-same, ltb, lt-ltb, le-ltb}
 use Rattle.common.specs.Pick.{pick}
 use Rattle.coil.specs.Line.{digits, decimal}
 

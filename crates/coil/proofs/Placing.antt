@@ -1,12 +1,7 @@
 -- Texts placed one behind the other are one text placed: what a line holds after each part of it was put.
-use mathlib.Core.Path.{_≡_, refl, ap, sym, _∙_}
-use mathlib.Core.List.{List, [], _++_, append-assoc}
-use Prim.Native.Nat.{ℕ, _+_, _≤_, _<_}
-use native.Mathlib.Nat.{zero-add}
-use native.Mathlib.Omega.{arith}
-use native.Mathlib.Numerals.{add-one}
-use lib.ListN.{length, getD, set, take, drop, length-append}
-use lib.Seq.{take-at, take-length, length-take-le, drop-append-add, drop-drop, paste, paste-suc}
+use Rattle.common.proofs.Ground.{_≡_, refl, ap, sym, _∙_, List, [], _++_, append-assoc, ℕ, _+_, _≤_, _<_, arith}
+use Rattle.common.proofs.Ground.{add-one, zero-add, length, getD, set, take, drop, length-append, take-at, take-length}
+use Rattle.common.proofs.Ground.{length-take-le, drop-append-add, drop-drop, paste, paste-suc}
 use Rattle.common.specs.Window.{placed}
 use Rattle.coil.specs.Writing.{Fronted}
 

@@ -1,13 +1,7 @@
 -- What was read into a buffer says what the file or input has: a full buffer is its front, and one that is not full has
 -- all of it. So the image and a turn's output follow from the buffer.
-use mathlib.Core.Path.{_≡_, sym, ap, _∙_}
-use mathlib.Core.Bool.{Bool, true, false}
-use mathlib.Core.List.{List}
-use Prim.Native.Nat.{ℕ, _≤_, _<_}
-use native.Mathlib.Omega.{arith}
-use lib.ListN.{length, take, length-take}
-use lib.Seq.{take-all, length-take-le}
-use borrow.Author.Tests.{le-leb, lt-leb, eq-eqb, ne-eqb}
+use Rattle.common.proofs.Ground.{_≡_, sym, ap, _∙_, Bool, true, false, List, ℕ, _≤_, _<_, arith, length, take}
+use Rattle.common.proofs.Ground.{length-take, take-all, length-take-le, le-leb, lt-leb, eq-eqb, ne-eqb}
 use Rattle.coil.specs.Line.{ascii, recordLine}
 use Rattle.coil.specs.Program.{mapOf, hasRecord, turnOf, ReadFrom, Turned}
 use Rattle.coil.specs.Writing.{Fronted}

@@ -1,9 +1,5 @@
 -- The cases of two numbers; and what follows where there is none.
-use mathlib.Core.Path.{_≡_}
-use mathlib.Core.Logic.{_⊎_, inl, inr, dite}
-use Prim.Native.Nat.{ℕ, _≤_, _<_}
-use native.Mathlib.Decide.{decLt}
-use native.Mathlib.Omega.{arith}
+use Rattle.common.proofs.Ground.{_≡_, _⊎_, inl, inr, dite, ℕ, _≤_, _<_, arith, decLt}
 
 pub le-or-lt : (a b : ℕ) → (a ≤ b) ⊎ (b < a)
 le-or-lt a b = dite (decLt b a) (λ less. inr less) (λ not-less. inl (omega arith))

@@ -1,11 +1,8 @@
 -- A window of a table, written: how long the table is then, what is read back, and that a lent window, which comes back
 -- between the entries before and behind it, is the window written.
-use mathlib.Core.Path.{_≡_, refl, ap, sym, _∙_}
-use mathlib.Core.List.{List, _++_, append-assoc}
-use Prim.Native.Nat.{ℕ, _+_, _≤_}
-use native.Mathlib.Omega.{arith}
-use lib.ListN.{length, take, drop, length-append, length-drop}
-use lib.Seq.{take-at, drop-at, drop-drop, length-take-le}
+use Rattle.common.proofs.Ground.{_≡_, refl, ap, sym, _∙_, List, _++_, append-assoc, ℕ, _+_, _≤_, arith, length}
+use Rattle.common.proofs.Ground.{take, drop, length-append, length-drop, take-at, drop-at, drop-drop}
+use Rattle.common.proofs.Ground.{length-take-le}
 use Rattle.common.specs.Window.{placed}
 
 module _ (table : List ℕ) (from : ℕ) (entries : List ℕ) where

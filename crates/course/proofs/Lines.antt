@@ -1,8 +1,6 @@
 -- Document 01's example of the program, computed from the definitions: for map M7 and the two records the whole
 -- output is that which it states.
-use mathlib.Core.Path.{_≡_, refl}
-use mathlib.Core.List.{List, [], _∷_}
-use Prim.Native.Nat.{ℕ}
+use Rattle.common.proofs.Ground.{_≡_, refl, List, [], _∷_, ℕ}
 use Rattle.net.specs.Net.{count}
 use Rattle.net.specs.Search.{least, iter, reached, start, choose, chooseOn, readFor, relax, relaxAll, visit, workTurn}
 use Rattle.net.specs.Search.{workThrough, dfVisit, stepBy, searchBy, dfSearch}

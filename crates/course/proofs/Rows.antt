@@ -1,7 +1,6 @@
 -- The ten cases, as one computation: what the definitions answer, row by row, is the answer of document 01; and the
 -- law that takes out a row.
-use mathlib.Core.Path.{_≡_, refl}
-use mathlib.Core.List.{List, _∷_, map, List·Memᴰ, List·Memᴰ·head, List·Memᴰ·tail}
+use Rattle.common.proofs.Ground.{_≡_, refl, List, _∷_, map, List·Memᴰ, List·Memᴰ·head, List·Memᴰ·tail}
 use Rattle.net.specs.Net.{count, changes, onePageReads}
 use Rattle.net.specs.Search.{least, iter, reached, start, choose, chooseOn, readFor, relax, relaxAll, visit}
 use Rattle.net.specs.Search.{workTurn, workThrough}

@@ -1,11 +1,8 @@
 -- Each wrong version is refused by its clause alone: what the clause says of it is false, by computation from the map's
 -- bytes.
-use mathlib.Core.Path.{_≡_, refl, ap, sym, _∙_}
-use mathlib.Core.Bool.{false, true≢false}
-use mathlib.Core.List.{List, [], _∷_, List·Memᴰ, List·Memᴰ·head, List·Memᴰ·tail}
-use mathlib.Core.List.{Sublistᴰ, Sublistᴰ·cons, Sublistᴰ·cons-cons, Sublistᴰ·eq-nil}
-use Prim.Native.Nat.{ℕ, _≤_, _<_}
-use native.Mathlib.Omega.{arith}
+use Rattle.common.proofs.Ground.{_≡_, refl, ap, sym, _∙_, false, true≢false, List, [], _∷_, List·Memᴰ, List·Memᴰ·head}
+use Rattle.common.proofs.Ground.{List·Memᴰ·tail, Sublistᴰ, Sublistᴰ·cons, Sublistᴰ·cons-cons, Sublistᴰ·eq-nil, ℕ, _≤_}
+use Rattle.common.proofs.Ground.{_<_, arith}
 use Rattle.common.specs.Numbers.{noTime}
 use Rattle.net.specs.Net.{isGood, Walk, here, onward, count, timesIn, movesTo, entersFrom, isEntry, entryStations}
 use Rattle.net.specs.Search.{least, iter, reached, start, choose, chooseOn, readFor, relax, relaxAll, visit}

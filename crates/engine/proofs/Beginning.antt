@@ -1,15 +1,7 @@
 -- The memory at the start of a search: the source alone has a time, and waits.
-use mathlib.Core.Path.{_≡_, refl, sym, _∙_, ap, subst}
-use mathlib.Core.Logic.{_≢_, dite}
-use mathlib.Core.Bool.{Bool, true}
-use mathlib.Core.List.{List}
-use Prim.Native.Nat.{ℕ, _+_, _-_, _≤_, _<_, min}
-use native.Mathlib.Decide.{ℕ-discrete}
-use native.Mathlib.Omega.{arith}
-use lib.Dec.{eqb}
-use lib.ListN.{length, getD, set, replicate, length-set, length-replicate, getD-replicate}
-use lib.Seq.{getD-set-same, getD-set-other}
-use borrow.Author.Tests.{eq-eqb, ne-eqb, eqb-true}
+use Rattle.common.proofs.Ground.{_≡_, refl, sym, _∙_, ap, subst, Bool, true, _≢_, dite, List, ℕ, _+_, _-_, _≤_, _<_}
+use Rattle.common.proofs.Ground.{min, arith, ℕ-discrete, length, getD, set, replicate, length-set, length-replicate}
+use Rattle.common.proofs.Ground.{getD-replicate, getD-set-same, getD-set-other, eqb, eq-eqb, ne-eqb, eqb-true}
 use Rattle.common.specs.Numbers.{sourceMark, noPred, nobody, noTime}
 use Rattle.net.specs.Net.{Frame}
 use Rattle.net.specs.Search.{timeOf, predOf, start, iter}

@@ -1,15 +1,8 @@
 -- A relaxed move on the working memory: the lesser of two cells is document 01's rule, the lesser of two keys makes the
 -- lowered station wait, and no other station and no other page notices.
-use mathlib.Core.Path.{_≡_, refl, sym, _∙_, ap, subst}
-use mathlib.Core.Logic.{_≢_, ⊎-elim, dite}
-use mathlib.Core.Bool.{Bool, true, false, true≢false}
-use mathlib.Core.List.{List}
-use Prim.Native.Nat.{ℕ, _+_, _-_, _/_, _≤_, _<_, min}
-use native.Mathlib.Decide.{ℕ-discrete}
-use native.Mathlib.Omega.{arith}
-use lib.ListN.{length, getD, set, length-set}
-use lib.Seq.{getD-set-same, getD-set-other}
-use borrow.Author.Tests.{lt-ltb, le-ltb}
+use Rattle.common.proofs.Ground.{_≡_, refl, sym, _∙_, ap, subst, Bool, true, false, true≢false, _≢_, ⊎-elim, dite}
+use Rattle.common.proofs.Ground.{List, ℕ, _+_, _-_, _/_, _≤_, _<_, min, arith, ℕ-discrete, length, getD, set}
+use Rattle.common.proofs.Ground.{length-set, getD-set-same, getD-set-other, lt-ltb, le-ltb}
 use Rattle.common.proofs.Cases.{le-or-lt}
 use Rattle.common.specs.Numbers.{nobody, noTime}
 use Rattle.layout.specs.Places.{firstSlot, slotOf, pageAt, Placed}

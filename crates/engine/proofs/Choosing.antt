@@ -1,15 +1,8 @@
 -- The least key names the station of least time, then lowest number, of those that wait: on a page by its slots, of all
 -- by the leaves.
-use mathlib.Core.Path.{_≡_, refl, sym, _∙_, ap, subst}
-use mathlib.Core.Logic.{⊎-elim}
-use mathlib.Core.Bool.{Bool, true, false, _&&_}
-use mathlib.Core.List.{List}
-use Prim.Native.Nat.{ℕ, _+_, _-_, _%_, _≤_, _<_}
-use native.Mathlib.Omega.{arith}
-use lib.Dec.{eqb}
-use lib.ListN.{length, getD, take, drop, length-take, length-drop}
-use lib.Seq.{getD-take, getD-drop}
-use borrow.Author.Tests.{lt-ltb, le-ltb, eqb-true, eq-eqb}
+use Rattle.common.proofs.Ground.{_≡_, refl, sym, _∙_, ap, subst, Bool, true, false, _&&_, ⊎-elim, List, ℕ, _+_, _-_}
+use Rattle.common.proofs.Ground.{_%_, _≤_, _<_, arith, length, getD, take, drop, length-take, length-drop, getD-take}
+use Rattle.common.proofs.Ground.{getD-drop, eqb, lt-ltb, le-ltb, eqb-true, eq-eqb}
 use Rattle.common.proofs.Cases.{le-or-lt}
 use Rattle.common.specs.Numbers.{nobody, noTime}
 use Rattle.net.specs.Search.{least}

@@ -1,10 +1,5 @@
 -- A page that is read, and found good, is known from then on, and so are the pages that were known before.
-use mathlib.Core.Path.{_≡_, refl, sym, ap, subst}
-use mathlib.Core.Logic.{_≢_, dite}
-use mathlib.Core.List.{List}
-use Prim.Native.Nat.{ℕ, _<_}
-use native.Mathlib.Decide.{ℕ-discrete}
-use lib.ListN.{length, getD}
+use Rattle.common.proofs.Ground.{_≡_, refl, sym, ap, subst, _≢_, dite, List, ℕ, _<_, ℕ-discrete, length, getD}
 use Rattle.page.specs.declared.Move.{Move}
 use Rattle.page.specs.declared.Verdict.{Verdict}
 use Rattle.page.specs.declared.Verdict.the-variants.{Good}

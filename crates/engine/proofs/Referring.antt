@@ -1,12 +1,7 @@
 -- One reference on an image. The least key of all names the first station that waits, or nobody does. A good page's
 -- rows are the moves that the net's page offers, so that it can be taken in hand; a bad one ends the search.
-use mathlib.Core.Path.{_≡_, refl, sym, _∙_, ap, subst}
-use mathlib.Core.Bool.{Bool, true, false}
-use mathlib.Core.List.{List, [], _∷_, _++_, map}
-use Prim.Native.Nat.{ℕ, suc, _%_, _≤_, _<_}
-use native.Mathlib.Numerals.{add-one}
-use lib.ListN.{length, getD, take}
-use borrow.Author.Tests.{lt-ltb, le-ltb}
+use Rattle.common.proofs.Ground.{_≡_, refl, sym, _∙_, ap, subst, Bool, true, false, List, [], _∷_, _++_, map, ℕ, suc}
+use Rattle.common.proofs.Ground.{_%_, _≤_, _<_, add-one, length, getD, take, lt-ltb, le-ltb}
 use Rattle.common.specs.Numbers.{nobody}
 use Rattle.common.proofs.Cases.{never}
 use Rattle.net.specs.declared.Choice.the-variants.{Station, Nobody}

@@ -1,13 +1,7 @@
 -- The run on an image: what holds after each reference, and how it ends. Where nobody waits, after a bad page, or when
 -- as many references as stations were made, the state is the end of the net's run, which is the search by the letter.
-use mathlib.Core.Path.{_≡_, refl, sym, _∙_, ap, subst}
-use mathlib.Core.Bool.{Bool}
-use mathlib.Core.List.{List, [], _∷_, _++_, append-assoc}
-use Prim.Native.Nat.{ℕ, suc, _+_, _<_}
-use native.Mathlib.Numerals.{add-one}
-use native.Mathlib.Omega.{arith}
-use lib.ListN.{length, getD, set, drop, length-append}
-use lib.Seq.{drop-cons, set-at}
+use Rattle.common.proofs.Ground.{_≡_, refl, sym, _∙_, ap, subst, Bool, List, [], _∷_, _++_, append-assoc, ℕ, suc, _+_}
+use Rattle.common.proofs.Ground.{_<_, arith, add-one, length, getD, set, drop, length-append, drop-cons, set-at}
 use Rattle.common.specs.Numbers.{noPred}
 use Rattle.net.specs.declared.Choice.the-variants.{Nobody}
 use Rattle.net.specs.Net.{Frame}

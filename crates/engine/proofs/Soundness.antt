@@ -1,10 +1,6 @@
 -- A well-formed image is a sound net: every move of a good page weighs 1 to 65,535 and leads to a station of the map.
-use mathlib.Core.Path.{_≡_, refl, ap}
-use mathlib.Core.Logic.{⊎-elim}
-use mathlib.Core.List.{List, [], _∷_, map, List·Memᴰ, List·Memᴰ·cases-cons, List·Memᴰ·not-nil}
-use Prim.Native.Nat.{ℕ, _+_, _≤_, _<_}
-use native.Mathlib.Omega.{arith}
-use lib.ListN.{length, getD}
+use Rattle.common.proofs.Ground.{_≡_, refl, ap, ⊎-elim, List, [], _∷_, map, List·Memᴰ, List·Memᴰ·cases-cons}
+use Rattle.common.proofs.Ground.{List·Memᴰ·not-nil, ℕ, _+_, _≤_, _<_, arith, length, getD}
 use Rattle.net.specs.Net.{movesOf, Move as NetMove}
 use Rattle.net.proofs.Sound.{Sound}
 use Rattle.net.proofs.Laws.{map-sound}

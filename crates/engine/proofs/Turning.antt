@@ -1,13 +1,7 @@
 -- The page loop: it starts with the page's first station, each turn visits the station of least key, and it ends where
 -- the turns are made or nobody waits on the page, which is the state after one reference more.
-use mathlib.Core.Path.{_≡_, sym, _∙_, ap, subst}
-use mathlib.Core.Logic.{_⊎_, inl, inr}
-use mathlib.Core.Bool.{Bool, true, false}
-use mathlib.Core.List.{List}
-use Prim.Native.Nat.{ℕ, suc, _+_, _-_, _%_, _≤_, _<_}
-use native.Mathlib.Omega.{arith}
-use lib.ListN.{getD, take, drop}
-use borrow.Author.Tests.{lt-ltb, le-ltb}
+use Rattle.common.proofs.Ground.{_≡_, sym, _∙_, ap, subst, Bool, true, false, _⊎_, inl, inr, List, ℕ, suc, _+_, _-_}
+use Rattle.common.proofs.Ground.{_%_, _≤_, _<_, arith, getD, take, drop, lt-ltb, le-ltb}
 use Rattle.common.specs.Numbers.{nobody}
 use Rattle.net.specs.declared.Choice.the-variants.{Station}
 use Rattle.net.specs.Net.{Move, Frame, good}

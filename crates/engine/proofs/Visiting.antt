@@ -1,14 +1,7 @@
 -- A visit on the working memory: a station's row is relaxed move by move, as the net relaxes its moves.
-use mathlib.Core.Path.{_≡_, refl, sym, _∙_, subst}
-use mathlib.Core.Logic.{dite}
-use native.Mathlib.Decide.{ℕ-discrete}
-use mathlib.Core.Bool.{Bool, true, false, _&&_, _||_}
-use mathlib.Core.List.{List, [], _∷_, _++_, append-assoc, append-nil, List·Memᴰ, List·Memᴰ·head, Memᴰ·append-right}
-use Prim.Native.Nat.{ℕ, _+_, _/_, _%_, _<_}
-use native.Mathlib.Omega.{arith}
-use lib.Dec.{ltb, eqb}
-use lib.ListN.{length, getD}
-use borrow.Author.Tests.{lt-ltb, le-ltb, eq-eqb, ne-eqb}
+use Rattle.common.proofs.Ground.{_≡_, refl, sym, _∙_, subst, Bool, true, false, _&&_, _||_, dite, List, [], _∷_, _++_}
+use Rattle.common.proofs.Ground.{append-assoc, append-nil, List·Memᴰ, List·Memᴰ·head, Memᴰ·append-right, ℕ, _+_, _/_}
+use Rattle.common.proofs.Ground.{_%_, _<_, arith, ℕ-discrete, length, getD, ltb, eqb, lt-ltb, le-ltb, eq-eqb, ne-eqb}
 use Rattle.common.specs.Numbers.{noTime}
 use Rattle.net.specs.declared.Choice.the-variants.{Station}
 use Rattle.net.specs.Net.{Move, Page, Frame, Goes}

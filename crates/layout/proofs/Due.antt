@@ -1,10 +1,6 @@
 -- A page is read station by station, and `due` is the slot behind the stations read. By `Placed` it is the slot of the
 -- page's next station, or the first slot of the next page if there is none: no look at the directory is needed.
-use mathlib.Core.Path.{_≡_, sym, _∙_}
-use mathlib.Core.List.{List}
-use Prim.Native.Nat.{ℕ, _+_, _≤_, _<_}
-use native.Mathlib.Omega.{arith}
-use lib.ListN.{length, getD}
+use Rattle.common.proofs.Ground.{_≡_, sym, _∙_, List, ℕ, _+_, _≤_, _<_, arith, length, getD}
 use Rattle.layout.specs.Places.{firstSlot, slotOf, Placed}
 use Rattle.layout.specs.Due.{Due, Next}
 use Rattle.layout.proofs.Compare.{by-order}

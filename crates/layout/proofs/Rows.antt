@@ -1,13 +1,8 @@
 -- What a write to `layout` does to the rows: one write changes one entry, so a row stays that does not have it and
 -- whose begin and end are elsewhere; and a move that is written behind a row makes the row longer by one.
-use mathlib.Core.Path.{_≡_, ap, _∙_}
-use mathlib.Core.Logic.{dite}
-use mathlib.Core.List.{List, [], _∷_, _++_}
-use Prim.Native.Nat.{ℕ, suc, _+_, _-_, _*_, _≤_, _<_}
-use native.Mathlib.Decide.{decLt}
-use native.Mathlib.Omega.{arith}
-use lib.ListN.{length, getD, take, drop, set, length-set, length-drop}
-use lib.Seq.{getD-set-same, getD-set-other, take-set-le, drop-set-lt, drop-set-add, take-suc-set}
+use Rattle.common.proofs.Ground.{_≡_, ap, _∙_, dite, List, [], _∷_, _++_, ℕ, suc, _+_, _-_, _*_, _≤_, _<_, arith}
+use Rattle.common.proofs.Ground.{decLt, length, getD, take, drop, set, length-set, length-drop, getD-set-same}
+use Rattle.common.proofs.Ground.{getD-set-other, take-set-le, drop-set-lt, drop-set-add, take-suc-set}
 use Rattle.layout.specs.Rows.{beginOf, endOf, rowOf, Laid}
 
 module _ (layout : List ℕ) (i x : ℕ) where

@@ -1,5 +1,5 @@
 -- The state of either search, by the letter of document 01, after n steps.
-use Prim.Native.Nat.{ℕ}
+use Rattle.common.proofs.Ground.{ℕ}
 use Rattle.net.specs.Net.{Page, Frame}
 use Rattle.net.specs.Search.{State, start, iter, plainVisit, dfVisit, noneOrLess, stepBy}
 

@@ -1,12 +1,8 @@
 -- Beliefs from the course, on the course maps of document 01: each is refuted by computing the DF search, and where the
 -- belief is about how it goes on, a variant that follows the belief (docs/course.md tells them with their numbers).
 -- Beside them stand the runs on M7, so that a wrong definition of the run is refused by the course's numbers first.
-use mathlib.Core.Path.{_≡_, refl}
-use mathlib.Core.List.{List, [], _∷_, Sublistᴰ, Sublistᴰ·slnil, Sublistᴰ·cons, Sublistᴰ·cons-cons}
-use mathlib.Core.Bool.{Bool, true, false, not, _||_}
-use Prim.Native.Nat.{ℕ, _+_}
-use lib.ListN.{getD, take}
-use lib.Dec.{eqb}
+use Rattle.common.proofs.Ground.{_≡_, refl, Bool, true, false, not, _||_, List, [], _∷_, Sublistᴰ, Sublistᴰ·slnil}
+use Rattle.common.proofs.Ground.{Sublistᴰ·cons, Sublistᴰ·cons-cons, ℕ, _+_, getD, take, eqb}
 use Rattle.common.specs.Pick.{pick}
 use Rattle.net.specs.Net.{Move, Page, good, bad, Frame, one}
 use Rattle.net.specs.Search.{State, refused, timeOf, predOf, isFresh, withTables, settle, markFresh, start}

@@ -1,13 +1,9 @@
 -- Two instances that later requests take: moves weighed by time and then by number of moves, where a time may be 0;
 -- and a page that offers only the moves that pass a test. Both are sound nets, so every law of `Laws` holds of them
 -- as it stands.
-use mathlib.Core.Path.{_≡_, refl, ap}
-use mathlib.Core.Logic.{_⊎_, inl, inr, ⊎-elim}
-use mathlib.Core.List.{List, [], _∷_, map, List·Memᴰ, List·Memᴰ·head, List·Memᴰ·tail, List·Memᴰ·not-nil}
-use mathlib.Core.Bool.{Bool, true, false}
-use Prim.Native.Nat.{ℕ, _+_, _*_, _≤_, _<_}
-use native.Mathlib.Nat.{mul-le-mul-right}
-use native.Mathlib.Omega.{arith}
+use Rattle.common.proofs.Ground.{_≡_, refl, ap, Bool, true, false, _⊎_, inl, inr, ⊎-elim, List, [], _∷_, map}
+use Rattle.common.proofs.Ground.{List·Memᴰ, List·Memᴰ·head, List·Memᴰ·tail, List·Memᴰ·not-nil, ℕ, _+_, _*_, _≤_, _<_}
+use Rattle.common.proofs.Ground.{arith, mul-le-mul-right}
 use Rattle.common.specs.Pick.{pick}
 use Rattle.net.specs.Net.{Move, Page, good, bad, Frame, movesOf, Goes, Walk, here, onward}
 use Rattle.net.specs.Search.{going, dfSearch, reached}

@@ -1,13 +1,8 @@
 -- The laws of both searches, for every net whose moves weigh at least 1 and lead to stations, and any source in it.
 -- Each is stated of the searches by the letter of document 01; the proofs are in the other files, for the one
 -- comparison, and are carried over here by the first laws.
-use mathlib.Core.Path.{_≡_, refl, sym, _∙_, ap}
-use mathlib.Core.List.{List, [], _∷_, _++_, Sublistᴰ}
-use Prim.Native.Nat.{ℕ, _+_, _*_, _≤_, _<_}
-use native.Mathlib.Nat.{mul-le-mul}
-use native.Mathlib.Omega.{arith}
-use lib.ListN.{length, getD}
-use lib.Dec.{ltb, eqb}
+use Rattle.common.proofs.Ground.{_≡_, refl, sym, _∙_, ap, List, [], _∷_, _++_, Sublistᴰ, ℕ, _+_, _*_, _≤_, _<_, arith}
+use Rattle.common.proofs.Ground.{mul-le-mul, length, getD, ltb, eqb}
 use Rattle.net.specs.declared.Choice.the-variants.{Station, Nobody}
 use Rattle.net.specs.Net.{Move, Page, good, Frame, Goes, timesIn, entryStations, onePageReads, count}
 use Rattle.net.specs.Search.{State, going, refused, timeOf, predOf, isSettled, isFresh, settle, withPage, start}

@@ -1,10 +1,8 @@
 -- Locality: two nets that agree on the pages that the first one's search lists get the same result in every part,
 -- accepted or refused. For a visit reads only the page that it lists, and the list only grows. Once for both
 -- searches, for any net and any comparison.
-use mathlib.Core.Path.{_≡_, refl, sym, _∙_, ap}
-use mathlib.Core.List.{List, [], _∷_, List·Memᴰ, List·Memᴰ·head, Memᴰ·append-left, Memᴰ·append-right}
-use mathlib.Core.Bool.{Bool, true, false}
-use Prim.Native.Nat.{ℕ, zero, suc}
+use Rattle.common.proofs.Ground.{_≡_, refl, sym, _∙_, ap, Bool, true, false, List, [], _∷_, List·Memᴰ, List·Memᴰ·head}
+use Rattle.common.proofs.Ground.{Memᴰ·append-left, Memᴰ·append-right, ℕ, zero, suc}
 use Rattle.net.specs.declared.Choice.{Choice}
 use Rattle.net.specs.declared.Choice.the-variants.{Station, Nobody}
 use Rattle.net.specs.Net.{Move, Page, Frame}

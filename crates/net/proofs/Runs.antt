@@ -3,15 +3,10 @@
 -- number of references, of turns with a page in hand and of a visited station's moves; who waits after each move. The
 -- proofs are in Searches/References, Steps/Turns and Steps/Waking. Of who is first, by stations and by pages,
 -- Steps/Waiting has the laws, which ask nothing of the net.
-use mathlib.Core.Path.{_≡_, refl, subst, sym, _∙_, ap}
-use mathlib.Core.Logic.{_≢_, ⊎-elim}
-use mathlib.Core.List.{List, [], _∷_, _++_, List·Memᴰ, List·Memᴰ·head, Memᴰ·append-left, Memᴰ·append-right}
-use mathlib.Core.Bool.{Bool, true, false, not, _&&_, _||_, true≢false}
-use Prim.Native.Nat.{ℕ, zero, suc, _+_, _-_, _≤_, _<_}
-use native.Mathlib.Omega.{arith}
-use lib.ListN.{length}
-use lib.Dec.{ltb, eqb}
-use borrow.Author.Tests.{eqb-true, eqb-false}
+use Rattle.common.proofs.Ground.{_≡_, refl, subst, sym, _∙_, ap, Bool, true, false, not, _&&_, _||_, true≢false, _≢_}
+use Rattle.common.proofs.Ground.{⊎-elim, List, [], _∷_, _++_, List·Memᴰ, List·Memᴰ·head, Memᴰ·append-left}
+use Rattle.common.proofs.Ground.{Memᴰ·append-right, ℕ, zero, suc, _+_, _-_, _≤_, _<_, arith, length, ltb, eqb}
+use Rattle.common.proofs.Ground.{eqb-true, eqb-false}
 use Rattle.common.proofs.Cases.{le-or-lt}
 use Rattle.common.specs.Numbers.{sourceMark, noPred}
 use Rattle.net.specs.declared.Choice.{Choice}

@@ -1,6 +1,6 @@
 -- What the laws ask of a net. Maps meet it (`map-sound` in Laws), and so do nets with other weights or fewer moves
 -- (Instances).
-use Prim.Native.Nat.{ℕ, _*_, _≤_, _<_}
+use Rattle.common.proofs.Ground.{ℕ, _*_, _≤_, _<_}
 use Rattle.net.specs.Net.{Page, Frame, Goes}
 
 -- Every move weighs at least 1 and leads to a station, the source is one, and no walk that repeats no station costs as

@@ -1,11 +1,6 @@
 -- What a reading depends on: images of one length that agree on the heading and the directory have the same heading
 -- check, and a page's reading depends on the directory, N with it, and that page's bytes alone.
-use mathlib.Core.Path.{_≡_, ap, sym, _∙_}
-use mathlib.Core.List.{List}
-use Prim.Native.Nat.{ℕ, _<_}
-use native.Mathlib.Omega.{arith}
-use lib.ListN.{length, getD}
-use lib.Seq.{getD-take}
+use Rattle.common.proofs.Ground.{_≡_, ap, sym, _∙_, List, ℕ, _<_, arith, length, getD, getD-take}
 use Rattle.page.specs.Image.{stationCount, pageCount, headingCheck}
 use Rattle.page.specs.Image.{AgreeOnHeading, AgreeOnDirectory, AgreeOnPage}
 use Rattle.page.specs.Check.{readingOf}

@@ -1,16 +1,8 @@
 -- What an accepted heading and directory say of an image: refusals 1 to 5, each turned round. A check that is
 -- accepted has passed its first test, and the checks that follow it are accepted too.
-use mathlib.Core.Path.{_≡_, refl}
-use mathlib.Core.Bool.{Bool, true, false, not, _||_}
-use mathlib.Core.List.{List, [], _∷_}
-use Prim.Native.Nat.{ℕ, zero, suc, _+_, _*_, _≤_, _<_}
-use mathlib.Core.Logic.{dite}
-use native.Mathlib.Decide.{decLt}
-use native.Mathlib.Omega.{arith}
-use lib.Dec.{eqb, ltb}
-use lib.ListN.{length, getD, drop, length-drop}
-use lib.Seq.{length-take-le}
-use borrow.Author.Tests.{ltb-false, lt-ltb, le-ltb, eqb-true, eqb-false, not-false}
+use Rattle.common.proofs.Ground.{_≡_, refl, Bool, true, false, not, _||_, dite, List, [], _∷_, ℕ, zero, suc, _+_, _*_}
+use Rattle.common.proofs.Ground.{_≤_, _<_, arith, decLt, length, getD, drop, length-drop, length-take-le, eqb, ltb}
+use Rattle.common.proofs.Ground.{ltb-false, lt-ltb, le-ltb, eqb-true, eqb-false, not-false}
 use Rattle.common.proofs.Cases.{never}
 use Rattle.common.specs.Pick.{pick}
 use Rattle.page.specs.Image.{Outcome, accepted, refused, Place, nowhere, at-station}

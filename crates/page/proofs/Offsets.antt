@@ -1,12 +1,7 @@
 -- Where a page's fault can stand: within the page or right behind it, so that its offset is 256 at most. By induction
 -- over the commands read, each of which ends within the page.
-use mathlib.Core.Path.{_≡_, refl}
-use mathlib.Core.Bool.{Bool, true, false, not, _||_}
-use mathlib.Core.List.{List}
-use Prim.Native.Nat.{ℕ, zero, suc, _+_, _*_, _≤_}
-use native.Mathlib.Omega.{arith}
-use lib.Dec.{ltb, eqb}
-use lib.ListN.{length}
+use Rattle.common.proofs.Ground.{_≡_, refl, Bool, true, false, not, _||_, List, ℕ, zero, suc, _+_, _*_, _≤_, arith}
+use Rattle.common.proofs.Ground.{length, ltb, eqb}
 use Rattle.common.specs.Pick.{pick}
 use Rattle.page.specs.declared.Move.{Move}
 use Rattle.page.specs.declared.Command.{Command}

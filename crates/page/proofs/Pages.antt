@@ -1,10 +1,6 @@
 -- The whole check's loop over the pages: what is left of the pages decides it. And the whole check by what the
 -- heading's check answers: refused, that is the outcome; accepted, the pages decide.
-use mathlib.Core.Path.{_≡_, refl, ap, sym, _∙_}
-use mathlib.Core.List.{List}
-use Prim.Native.Nat.{ℕ, suc, _+_, _-_, _≤_, _<_}
-use native.Mathlib.Omega.{arith}
-use native.Mathlib.Numerals.{add-one}
+use Rattle.common.proofs.Ground.{_≡_, refl, ap, sym, _∙_, List, ℕ, suc, _+_, _-_, _≤_, _<_, arith, add-one}
 use Rattle.common.proofs.Cases.{never}
 use Rattle.page.specs.declared.Checked.{Checked}
 use Rattle.page.specs.declared.Checked.the-variants.{Refused}

@@ -1,11 +1,6 @@
 -- The parts of an image: they are bytes if it is, and a page has 256 of them at most.
-use mathlib.Core.Logic.{dite}
-use mathlib.Core.List.{List}
-use Prim.Native.Nat.{ℕ, _+_, _*_, _≤_}
-use native.Mathlib.Decide.{decLt}
-use native.Mathlib.Omega.{arith}
-use lib.ListN.{length, drop, length-take, List·getD-eq-default}
-use lib.Seq.{getD-take, getD-drop}
+use Rattle.common.proofs.Ground.{dite, List, ℕ, _+_, _*_, _≤_, arith, decLt, length, drop, length-take}
+use Rattle.common.proofs.Ground.{List·getD-eq-default, getD-take, getD-drop}
 use Rattle.page.specs.Bytes.{Bytes, part}
 use Rattle.page.specs.Image.{stationCount, directoryOf, pageBytes}
 

@@ -1,16 +1,9 @@
 -- The queue of pages under a change of one leaf: where its group is the least of its leaves again, every group is. And
 -- the least of the groups is the least of all leaves.
-use mathlib.Core.Path.{_≡_, refl, ap, sym, _∙_}
-use mathlib.Core.Logic.{_≢_}
-use mathlib.Core.Bool.{Bool, true, false}
-use mathlib.Core.List.{List}
-use Prim.Native.Nat.{ℕ, zero, suc, _+_, _-_, _*_, _/_, _<_, _≤_, min}
-use native.Mathlib.Omega.{arith}
-use native.Mathlib.Numerals.{add-one}
-use borrow.Author.Tests.{eqb-false, eqb-true, ltb-true, ltb-false}
-use lib.Dec.{eqb, ltb}
-use lib.ListN.{length, getD, set, take, replicate, length-set, length-take, length-replicate, getD-replicate}
-use lib.Seq.{getD-set-same, getD-set-other, getD-take, ext-getD}
+use Rattle.common.proofs.Ground.{_≡_, refl, ap, sym, _∙_, Bool, true, false, _≢_, List, ℕ, zero, suc, _+_, _-_, _*_}
+use Rattle.common.proofs.Ground.{_/_, _<_, _≤_, min, arith, add-one, length, getD, set, take, replicate, length-set}
+use Rattle.common.proofs.Ground.{length-take, length-replicate, getD-replicate, getD-set-same, getD-set-other}
+use Rattle.common.proofs.Ground.{getD-take, ext-getD, eqb, ltb, eqb-false, eqb-true, ltb-true, ltb-false}
 use Rattle.common.specs.Numbers.{nobody}
 use Rattle.queue.specs.Keys.{leastIn, leastFrom}
 use Rattle.queue.specs.Queue.{Groups, Put}

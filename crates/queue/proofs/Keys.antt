@@ -1,11 +1,6 @@
 -- A packed number has its parts by division, and compares by cost, then by station.
-use mathlib.Core.Path.{_≡_, refl}
-use mathlib.Core.Bool.{Bool, true, false}
-use mathlib.Core.Logic.{_⊎_, inl, inr}
-use Prim.Native.Nat.{ℕ, _/_, _%_, _<_}
-use native.Mathlib.Omega.{arith}
-use borrow.Author.Tests.{ltb-true, ltb-false}
-use lib.Dec.{ltb}
+use Rattle.common.proofs.Ground.{_≡_, refl, Bool, true, false, _⊎_, inl, inr, ℕ, _/_, _%_, _<_, arith, ltb, ltb-true}
+use Rattle.common.proofs.Ground.{ltb-false}
 use Rattle.common.specs.Numbers.{nobody}
 use Rattle.queue.specs.Keys.{packed}
 

@@ -1,16 +1,9 @@
 -- The least of keys: of two lists one after the other, of one key more, of keys of which one changes; how it bounds
 -- each key, and that it is one of them.
-use mathlib.Core.Path.{_≡_, refl, _∙_}
-use mathlib.Core.Bool.{Bool, true, false}
-use mathlib.Core.List.{List, [], _∷_, _++_}
-use Prim.Native.Nat.{ℕ, zero, suc, _+_, _-_, _<_, _≤_, min}
-use native.Mathlib.Omega.{arith}
-use native.Mathlib.Numerals.{add-one}
-use borrow.Author.Tests.{ltb-true, ltb-false}
-use lib.Dec.{ltb}
-use lib.ListN.{length, getD, set, take, drop, length-take, length-drop}
-use lib.Seq.{take-suc, take-add, getD-take, getD-drop, set-split}
-use lib.Seq.{drop-set-lt, drop-set-add, take-set-le, take-set-lt}
+use Rattle.common.proofs.Ground.{_≡_, refl, _∙_, Bool, true, false, List, [], _∷_, _++_, ℕ, zero, suc, _+_, _-_, _<_}
+use Rattle.common.proofs.Ground.{_≤_, min, arith, add-one, length, getD, set, take, drop, length-take, length-drop}
+use Rattle.common.proofs.Ground.{take-suc, take-add, getD-take, getD-drop, set-split, drop-set-lt, drop-set-add}
+use Rattle.common.proofs.Ground.{take-set-le, take-set-lt, ltb, ltb-true, ltb-false}
 use Rattle.common.specs.Numbers.{nobody}
 use Rattle.queue.specs.Keys.{leastIn, leastFrom}
 

@@ -1,9 +1,5 @@
 -- The scan of `least_between`: what it has found so far is the least of the keys from `lo` up to i.
-use mathlib.Core.Path.{_≡_, ap, sym, _∙_}
-use mathlib.Core.List.{List}
-use Prim.Native.Nat.{ℕ, _+_, _-_, _<_, _≤_, min}
-use native.Mathlib.Omega.{arith}
-use lib.ListN.{length, getD}
+use Rattle.common.proofs.Ground.{_≡_, ap, sym, _∙_, List, ℕ, _+_, _-_, _<_, _≤_, min, arith, length, getD}
 use Rattle.common.specs.Numbers.{nobody}
 use Rattle.queue.specs.Keys.{leastFrom}
 use Rattle.queue.proofs.Least.{least-none, least-more}

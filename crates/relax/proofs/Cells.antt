@@ -1,13 +1,7 @@
 -- Cells compare as pairs: by cost, then by predecessor. So the lesser of two cells is document 01's rule, and a lowered
 -- cost is a lesser key.
-use mathlib.Core.Path.{_≡_, refl, subst}
-use mathlib.Core.List.{List}
-use mathlib.Core.Bool.{Bool, true, false, _&&_}
-use Prim.Native.Nat.{ℕ, _/_, _<_, _≤_, min}
-use native.Mathlib.Omega.{arith}
-use borrow.Author.Tests.{ltb-true, ltb-false, lt-ltb, le-ltb, eqb-true, eqb-false}
-use lib.Dec.{eqb, ltb}
-use lib.ListN.{getD, set}
+use Rattle.common.proofs.Ground.{_≡_, refl, subst, Bool, true, false, _&&_, List, ℕ, _/_, _<_, _≤_, min, arith, getD}
+use Rattle.common.proofs.Ground.{set, eqb, ltb, ltb-true, ltb-false, lt-ltb, le-ltb, eqb-true, eqb-false}
 use Rattle.common.specs.Numbers.{nobody}
 use Rattle.common.specs.Pick.{pick}
 use Rattle.queue.specs.Keys.{packed}

@@ -1,12 +1,7 @@
 -- A move relaxed, entry by entry; and a row relaxed: what each of its moves keeps holds of the working memory after all
 -- of them.
-use mathlib.Core.Path.{_≡_, refl, _∙_}
-use mathlib.Core.Logic.{_≢_}
-use mathlib.Core.List.{List, [], _∷_, List·Memᴰ, List·Memᴰ·head, List·Memᴰ·tail}
-use Prim.Native.Nat.{ℕ, _+_, _/_, _%_, _<_, min}
-use native.Mathlib.Omega.{arith}
-use lib.ListN.{getD, set, length-set}
-use lib.Seq.{getD-set-same, getD-set-other}
+use Rattle.common.proofs.Ground.{_≡_, refl, _∙_, _≢_, List, [], _∷_, List·Memᴰ, List·Memᴰ·head, List·Memᴰ·tail, ℕ, _+_}
+use Rattle.common.proofs.Ground.{_/_, _%_, _<_, min, arith, getD, set, length-set, getD-set-same, getD-set-other}
 use Rattle.queue.specs.Keys.{packed}
 use Rattle.layout.specs.Places.{slotOf}
 use Rattle.relax.specs.Cells.{Memory, memory, loweredKey, Relaxed, Relaxing, none, more, Visited}

@@ -1,12 +1,6 @@
 -- What a call hands back, in each of the cases that the code tells apart.
-use mathlib.Core.Path.{_≡_, refl, sym, _∙_}
-use mathlib.Core.Bool.{Bool, true, false, _||_}
-use mathlib.Core.List.{List}
-use Prim.Native.Nat.{ℕ, _<_, _≤_}
-use native.Mathlib.Omega.{arith}
-use borrow.Author.Tests.{eq-eqb, ne-eqb, lt-ltb, le-ltb, le-leb, lt-leb}
-use lib.ListN.{length}
-use lib.Dec.{eqb, ltb, leb}
+use Rattle.common.proofs.Ground.{_≡_, refl, sym, _∙_, Bool, true, false, _||_, List, ℕ, _<_, _≤_, arith, length, eqb}
+use Rattle.common.proofs.Ground.{ltb, leb, eq-eqb, ne-eqb, lt-ltb, le-ltb, le-leb, lt-leb}
 use Rattle.route.specs.declared.RouteAnswer.the-variants.{Found, NoRoute, Refused}
 use Rattle.common.specs.Numbers.{noPred}
 use Rattle.route.specs.Route.{predecessorAt, Chain, whole, broken, chain, stationsOf, writtenTo}

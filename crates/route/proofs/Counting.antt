@@ -1,10 +1,6 @@
 -- The count of a chain's stations, followed from its end: those passed and those of the chain that is left are at each
 -- turn those of the whole chain.
-use mathlib.Core.Path.{_≡_, refl, sym, _∙_}
-use mathlib.Core.List.{List}
-use Prim.Native.Nat.{ℕ, suc, _+_, _-_, _<_, _≤_}
-use native.Mathlib.Omega.{arith}
-use lib.ListN.{length, length-append}
+use Rattle.common.proofs.Ground.{_≡_, refl, sym, _∙_, List, ℕ, suc, _+_, _-_, _<_, _≤_, arith, length, length-append}
 use Rattle.common.specs.Numbers.{sourceMark}
 use Rattle.route.specs.Route.{predecessorAt, Chain, whole, broken, lengthened, chain, stationsOf}
 use Rattle.route.proofs.Steps.{chain-source, chain-lost, chain-onward}

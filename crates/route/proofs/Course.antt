@@ -1,7 +1,5 @@
 -- The course case C10, the examples of rows 15 to 17 (01) and the bounds beside them, computed from the definitions.
-use mathlib.Core.Path.{_≡_, refl}
-use mathlib.Core.List.{List, [], _∷_}
-use Prim.Native.Nat.{ℕ}
+use Rattle.common.proofs.Ground.{_≡_, refl, List, [], _∷_, ℕ}
 use Rattle.route.specs.Route.{chain, found, noRoute, refused, outcome, stations, routeCall}
 
 -- The predecessors of C1.

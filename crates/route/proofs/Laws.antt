@@ -1,15 +1,10 @@
 -- What a caller may cite: what an answer `Found` says; that what the definition finds is a route, whose properties are
 -- in proofs/Positions.antt, and the converse; that the route to a station on a route is its front part; and that a
 -- chain which meets the source within n - 1 steps is found.
-use mathlib.Core.Path.{_≡_, refl, ap, sym, _∙_}
-use mathlib.Core.Bool.{Bool, true, false}
-use mathlib.Core.List.{List, [], _∷_, _++_}
-use Prim.Native.Nat.{ℕ, zero, suc, _+_, _<_, _≤_}
-use native.Mathlib.Omega.{arith}
-use borrow.Author.Tests.{eqb-true, eqb-false, ltb-true, ltb-false, leb-true, leb-false, le-ltb}
-use lib.Dec.{eqb, ltb, leb}
-use lib.ListN.{length, take, drop, length-take, length-append}
-use lib.Seq.{getD-append-seam, take-append-add}
+use Rattle.common.proofs.Ground.{_≡_, refl, ap, sym, _∙_, Bool, true, false, List, [], _∷_, _++_, ℕ, zero, suc, _+_}
+use Rattle.common.proofs.Ground.{_<_, _≤_, arith, length, take, drop, length-take, length-append, getD-append-seam}
+use Rattle.common.proofs.Ground.{take-append-add, eqb, ltb, leb, eqb-true, eqb-false, ltb-true, ltb-false, leb-true}
+use Rattle.common.proofs.Ground.{leb-false, le-ltb}
 use Rattle.common.specs.Numbers.{sourceMark, noPred}
 use Rattle.route.specs.Route.{predecessorAt, Chain, whole, broken, chain, trail, back}
 use Rattle.route.specs.Route.{Outcome, found, noRoute, refused, fitted, outcome, RouteTo, begins, extends}

@@ -1,14 +1,8 @@
 -- A route by the positions of its list: how it begins and ends, how its stations are linked, and that its front parts
 -- are routes. Each law goes along the route, station by station.
-use mathlib.Core.Path.{_≡_, refl, sym, _∙_}
-use mathlib.Core.Bool.{Bool, true, false}
-use mathlib.Core.List.{List, [], _∷_, _++_}
-use Prim.Native.Nat.{ℕ, suc, _+_, _-_, _<_}
-use native.Mathlib.Omega.{arith}
-use borrow.Author.Tests.{ltb-true, ltb-false}
-use lib.Dec.{ltb}
-use lib.ListN.{length, getD, take, List·getD-append}
-use lib.Seq.{take-all, take-append-le, getD-append-seam}
+use Rattle.common.proofs.Ground.{_≡_, refl, sym, _∙_, Bool, true, false, List, [], _∷_, _++_, ℕ, suc, _+_, _-_, _<_}
+use Rattle.common.proofs.Ground.{arith, length, getD, take, List·getD-append, take-all, take-append-le}
+use Rattle.common.proofs.Ground.{getD-append-seam, ltb, ltb-true, ltb-false}
 use Rattle.common.specs.Numbers.{sourceMark, noPred}
 use Rattle.route.specs.Route.{predecessorAt, RouteTo, begins, extends}
 use Rattle.route.proofs.Routes.{one-longer, route-some}

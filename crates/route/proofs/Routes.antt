@@ -1,13 +1,7 @@
 -- What the definition finds is a route, and every route that is short enough is found. Both go station by station, the
 -- one along the definition, the other along the route.
-use mathlib.Core.Path.{_≡_, refl, ap, _∙_}
-use mathlib.Core.Bool.{Bool, true, false}
-use mathlib.Core.List.{List, [], _∷_, _++_}
-use Prim.Native.Nat.{ℕ, zero, suc, _<_, _≤_}
-use native.Mathlib.Omega.{arith}
-use borrow.Author.Tests.{ltb-true, ltb-false}
-use lib.Dec.{ltb}
-use lib.ListN.{length, length-append, List·getD-eq-default}
+use Rattle.common.proofs.Ground.{_≡_, refl, ap, _∙_, Bool, true, false, List, [], _∷_, _++_, ℕ, zero, suc, _<_, _≤_}
+use Rattle.common.proofs.Ground.{arith, length, length-append, List·getD-eq-default, ltb, ltb-true, ltb-false}
 use Rattle.common.specs.Numbers.{noPred}
 use Rattle.route.specs.Route.{predecessorAt, whole, chain, trail}
 use Rattle.route.specs.Route.{RouteTo, begins, extends}

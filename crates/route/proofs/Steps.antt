@@ -1,12 +1,7 @@
 -- One step of a chain: it ends at the source, is lost, or goes on. Each follows from the two tests of the definition.
-use mathlib.Core.Path.{_≡_, refl, sym, _∙_}
-use mathlib.Core.Bool.{Bool, true, false}
-use mathlib.Core.List.{List, [], _∷_, _++_}
-use Prim.Native.Nat.{ℕ, zero, suc, _<_, _≤_}
-use native.Mathlib.Omega.{arith}
-use borrow.Author.Tests.{eq-eqb, ne-eqb, lt-ltb, le-ltb, eqb-true, eqb-false, ltb-true, ltb-false}
-use lib.Dec.{eqb, ltb}
-use lib.ListN.{length, getD}
+use Rattle.common.proofs.Ground.{_≡_, refl, sym, _∙_, Bool, true, false, List, [], _∷_, _++_, ℕ, zero, suc, _<_, _≤_}
+use Rattle.common.proofs.Ground.{arith, length, getD, eqb, ltb, eq-eqb, ne-eqb, lt-ltb, le-ltb, eqb-true, eqb-false}
+use Rattle.common.proofs.Ground.{ltb-true, ltb-false}
 use Rattle.common.specs.Numbers.{sourceMark}
 use Rattle.route.specs.Route.{predecessorAt, Chain, whole, broken, lengthened, chain}
 

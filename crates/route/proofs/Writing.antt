@@ -1,10 +1,6 @@
 -- Writing a trail from its end: what is written and what is still to be written are at each turn the whole result.
-use mathlib.Core.Path.{_≡_, refl, sym, _∙_}
-use mathlib.Core.List.{List, [], _∷_, append-assoc}
-use Prim.Native.Nat.{ℕ, zero, suc, _-_, _<_, _≤_}
-use native.Mathlib.Omega.{arith}
-use lib.ListN.{length, drop, set, length-set}
-use lib.Seq.{drop-cons, drop-set-lt, getD-set-same}
+use Rattle.common.proofs.Ground.{_≡_, refl, sym, _∙_, List, [], _∷_, append-assoc, ℕ, zero, suc, _-_, _<_, _≤_, arith}
+use Rattle.common.proofs.Ground.{length, drop, set, length-set, drop-cons, drop-set-lt, getD-set-same}
 use Rattle.route.specs.Route.{predecessorAt, trail, writtenTo}
 
 stored : (out : List ℕ) (k v : ℕ) → k < length out → drop k (set out k v) ≡ v ∷ drop (suc k) out

@@ -1,13 +1,8 @@
 -- Refusals 1 to 7: what a call that they do not refuse has, that they name no page, and that the code's tests are the
 -- definition's.
-use mathlib.Core.Path.{_≡_, refl, sym, _∙_}
-use mathlib.Core.Logic.{⊎-elim}
-use mathlib.Core.Bool.{Bool, true, false, not, _||_, true≢false}
-use mathlib.Core.List.{List}
-use Prim.Native.Nat.{ℕ, _+_, _*_, _≤_, _<_}
-use lib.Dec.{ltb, leb, eqb}
-use lib.ListN.{length}
-use borrow.Author.Tests.{lt-ltb, le-ltb, le-leb, lt-leb, ltb-false, leb-false}
+use Rattle.common.proofs.Ground.{_≡_, refl, sym, _∙_, Bool, true, false, not, _||_, true≢false, ⊎-elim, List, ℕ, _+_}
+use Rattle.common.proofs.Ground.{_*_, _≤_, _<_, length, ltb, leb, eqb, lt-ltb, le-ltb, le-leb, lt-leb, ltb-false}
+use Rattle.common.proofs.Ground.{leb-false}
 use Rattle.common.specs.Pick.{pick}
 use Rattle.common.proofs.Cases.{le-or-lt, never}
 use Rattle.page.specs.Image.{Outcome, accepted, refused, Place, nowhere, at-station, on-page}

@@ -1,10 +1,7 @@
 -- What a search that has ended hands back, with its cells written into the windows of the lent tables, is what the
 -- definition says.
-use mathlib.Core.Path.{_≡_, refl, ap, sym, _∙_, subst}
-use mathlib.Core.Bool.{Bool, true, false}
-use mathlib.Core.List.{List, _++_}
-use Prim.Native.Nat.{ℕ}
-use lib.ListN.{length, drop, replicate}
+use Rattle.common.proofs.Ground.{_≡_, refl, ap, sym, _∙_, subst, Bool, true, false, List, _++_, ℕ, length, drop}
+use Rattle.common.proofs.Ground.{replicate}
 use Rattle.common.specs.Numbers.{noTime, noPred}
 use Rattle.common.specs.Window.{placed}
 use Rattle.common.proofs.Windows.{lent-front}

@@ -1,17 +1,9 @@
 -- The end of a search: station by station the cells' times and predecessors are written; they are those of the search
 -- by the letter, or all none where a bad page ended it.
-use mathlib.Core.Path.{_≡_, refl, ap, sym, _∙_}
-use mathlib.Core.Logic.{_≢_, ⊎-elim, dite}
-use mathlib.Core.Bool.{Bool, true, false}
-use mathlib.Core.List.{List, [], _∷_}
-use Prim.Native.Nat.{ℕ, zero, suc, _+_, _/_, _≤_, _<_}
-use native.Mathlib.Decide.{ℕ-discrete}
-use native.Mathlib.Numerals.{add-one}
-use native.Mathlib.Omega.{arith}
-use lib.Dec.{ltb}
-use lib.ListN.{length, getD, set, replicate, length-set, length-replicate, getD-replicate}
-use lib.Seq.{getD-set-same, getD-set-other, ext-getD}
-use borrow.Author.Tests.{lt-ltb, le-ltb, eq-eqb, ne-eqb}
+use Rattle.common.proofs.Ground.{_≡_, refl, ap, sym, _∙_, Bool, true, false, _≢_, ⊎-elim, dite, List, [], _∷_, ℕ, zero}
+use Rattle.common.proofs.Ground.{suc, _+_, _/_, _≤_, _<_, arith, ℕ-discrete, add-one, length, getD, set, replicate}
+use Rattle.common.proofs.Ground.{length-set, length-replicate, getD-replicate, getD-set-same, getD-set-other, ext-getD}
+use Rattle.common.proofs.Ground.{ltb, lt-ltb, le-ltb, eq-eqb, ne-eqb}
 use Rattle.common.specs.Numbers.{noTime, noPred}
 use Rattle.common.proofs.Cases.{le-or-lt}
 use Rattle.net.specs.Net.{Frame, Page, one, count}

@@ -1,12 +1,8 @@
 -- What a search promises (specs/Promises.antt) holds of what the definition hands back: a call is refused before any
 -- page, or its map is a sound net and the laws of the net speak of it. The tables' first N entries are those of the
 -- net's search, and the list's first entries its page list.
-use mathlib.Core.Path.{_≡_, refl, ap, sym, _∙_, subst}
-use mathlib.Core.Bool.{Bool, true, false}
-use mathlib.Core.List.{List, [], _∷_, _++_, List·Memᴰ}
-use Prim.Native.Nat.{ℕ}
-use native.Mathlib.Omega.{arith}
-use lib.ListN.{length, take}
+use Rattle.common.proofs.Ground.{_≡_, refl, ap, sym, _∙_, subst, Bool, true, false, List, [], _∷_, _++_, List·Memᴰ, ℕ}
+use Rattle.common.proofs.Ground.{arith, length, take}
 use Rattle.common.specs.Window.{placed}
 use Rattle.common.proofs.Cases.{never}
 use Rattle.common.proofs.Windows.{placed-window}

@@ -1,10 +1,5 @@
 -- The net's laws of both searches, by the flag, for a call that 1 to 7 do not refuse: its map is a sound net.
-use mathlib.Core.Path.{_≡_}
-use mathlib.Core.Bool.{Bool, true, false}
-use mathlib.Core.List.{List, [], _∷_, _++_}
-use Prim.Native.Nat.{ℕ, _≤_}
-use native.Mathlib.Omega.{arith}
-use lib.ListN.{length}
+use Rattle.common.proofs.Ground.{_≡_, Bool, true, false, List, [], _∷_, _++_, ℕ, _≤_, arith, length}
 use Rattle.net.specs.Net.{Frame, Page}
 use Rattle.net.specs.Search.{State, going, refused, reached}
 use Rattle.net.specs.Run.{searchOf}

@@ -1,10 +1,5 @@
 -- The four numbers put into an answer one by one are the answer's new front; a shorter answer stays as it is.
-use mathlib.Core.Path.{_≡_, refl}
-use mathlib.Core.List.{List, [], _∷_}
-use Prim.Native.Nat.{ℕ, _≤_, _<_}
-use native.Mathlib.Omega.{arith}
-use lib.ListN.{length, set, drop}
-use borrow.Author.Tests.{lt-ltb, le-ltb}
+use Rattle.common.proofs.Ground.{_≡_, refl, List, [], _∷_, ℕ, _≤_, _<_, arith, length, set, drop, lt-ltb, le-ltb}
 use Rattle.yard.specs.declared.Numbers.{Numbers}
 use Rattle.yard.specs.Numbers.{told, toldBy}
 

@@ -1,13 +1,7 @@
 -- How small the numbers of every outcome are: a list and the stations reached number at most 2,048, as does a route,
 -- and a fault stands at most at offset 256.
-use mathlib.Core.Path.{_≡_, refl}
-use mathlib.Core.Bool.{Bool, true, false, _||_}
-use mathlib.Core.List.{List, [], _∷_}
-use Prim.Native.Nat.{ℕ, zero, suc, _≤_}
-use native.Mathlib.Omega.{arith}
-use lib.Dec.{ltb, leb, eqb}
-use lib.ListN.{length, length-append}
-use borrow.Author.Tests.{ltb-false}
+use Rattle.common.proofs.Ground.{_≡_, refl, Bool, true, false, _||_, List, [], _∷_, ℕ, zero, suc, _≤_, arith, length}
+use Rattle.common.proofs.Ground.{length-append, ltb, leb, eqb, ltb-false}
 use Rattle.common.specs.Numbers.{sourceMark, noPred}
 use Rattle.common.specs.Pick.{pick}
 use Rattle.common.proofs.Cases.{never}

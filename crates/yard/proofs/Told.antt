@@ -1,9 +1,6 @@
 -- What a C call of a search hands over: its numbers are small, and they and the tables are those of the definition, of
 -- which the search's promise holds.
-use mathlib.Core.Path.{_≡_, ap, sym, _∙_, subst}
-use mathlib.Core.Bool.{Bool}
-use mathlib.Core.List.{List}
-use Prim.Native.Nat.{ℕ}
+use Rattle.common.proofs.Ground.{_≡_, ap, sym, _∙_, subst, Bool, List, ℕ}
 use Rattle.net.specs.Run.{searchOf}
 use Rattle.page.specs.Bytes.{Bytes}
 use Rattle.search.specs.Reply.{Query, Lent, Reply, Handed, handed, searched}

@@ -1,9 +1,7 @@
 -- `answer_record`: the parts are those of the record's bytes and the answer means the search's reply, so that the line
 -- put is the record's (proofs/Answering.antt).
-use native.Mathlib.Omega.{arith}
+use Rattle.common.proofs.Ground.{arith, now, needs}
 use Rattle.coil.proofs.Answering.{line-of-record}
-use denote.Ref.{now}
-use borrow.Author.Needs.{needs}
 use Rattle.coil.proofs.answer_record.Statement.{statement}
 use Rattle.coil.proofs.answer_record.Tie as tie
 

@@ -1,7 +1,6 @@
 -- `search_from`: the reply of the whole outcome that `df` promises; the tables that it was lent are blank.
 use Rattle.search.specs.Reply.{Handed}
-use mathlib.Core.Path.{ap}
-use borrow.Author.Needs.{needs}
+use Rattle.common.proofs.Ground.{ap, needs}
 use Rattle.coil.proofs.search_from.Statement.{statement}
 use Rattle.coil.proofs.search_from.Tie as tie
 

@@ -1,11 +1,6 @@
 -- How many numbers below n pass a test: never more than n, never fewer where the test is wider, and more where it
 -- gained a number. Each is by induction on n.
-use mathlib.Core.Path.{_≡_, refl}
-use mathlib.Core.Logic.{⊎-elim}
-use mathlib.Core.Bool.{Bool, true, false}
-use Prim.Native.Nat.{ℕ, zero, suc, _≤_, _<_}
-use native.Mathlib.Nat.{not-suc-le-zero}
-use native.Mathlib.Omega.{arith}
+use Rattle.common.proofs.Ground.{_≡_, refl, Bool, true, false, ⊎-elim, ℕ, zero, suc, _≤_, _<_, arith, not-suc-le-zero}
 use Rattle.net.specs.Net.{one, count}
 use Rattle.net.proofs.Basics.Tests.{below-or-last}
 

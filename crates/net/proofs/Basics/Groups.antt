@@ -1,11 +1,6 @@
 -- The first by key and then by number of all that pass a test is the first among the firsts of groups, as of the
 -- stations of each page. From what `least` finds.
-use mathlib.Core.Path.{_≡_, refl, sym, _∙_}
-use mathlib.Core.Bool.{Bool, true, _&&_, true≢false}
-use Prim.Native.Nat.{ℕ, _<_}
-use native.Mathlib.Omega.{arith}
-use lib.Dec.{eqb}
-use borrow.Author.Tests.{eq-eqb}
+use Rattle.common.proofs.Ground.{_≡_, refl, sym, _∙_, Bool, true, _&&_, true≢false, ℕ, _<_, arith, eqb, eq-eqb}
 use Rattle.net.specs.declared.Choice.{Choice}
 use Rattle.net.specs.declared.Choice.the-variants.{Station, Nobody}
 use Rattle.net.specs.Search.{least}

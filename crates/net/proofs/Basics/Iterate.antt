@@ -1,8 +1,6 @@
 -- What n steps come to: what each step keeps, what each counts up, a loop that stops early, and two loops whose steps
 -- agree. Each is by induction on the number of steps.
-use mathlib.Core.Path.{_≡_, refl, _∙_}
-use Prim.Native.Nat.{ℕ, zero, suc, _+_}
-use native.Mathlib.Nat.{zero-add, add-zero, suc-add, add-suc}
+use Rattle.common.proofs.Ground.{_≡_, refl, _∙_, ℕ, zero, suc, _+_, zero-add, add-zero, suc-add, add-suc}
 use Rattle.net.specs.Search.{State, iter}
 
 -- what every step keeps, n steps keep

@@ -1,12 +1,7 @@
 -- What `least` finds: a number below n that passes the test and comes before every other such, by key and then by
 -- number; or nobody, and then none passes. By induction on n. And only that: whoever is such a number is the one found.
-use mathlib.Core.Path.{_≡_, refl, sym, _∙_, ap, subst}
-use mathlib.Core.Logic.{⊎-elim}
-use mathlib.Core.Bool.{Bool, true, false, true≢false}
-use Prim.Native.Nat.{ℕ, zero, suc, _≤_, _<_}
-use native.Mathlib.Nat.{not-suc-le-zero}
-use native.Mathlib.Omega.{arith}
-use borrow.Author.Tests.{lt-ltb, le-ltb}
+use Rattle.common.proofs.Ground.{_≡_, refl, sym, _∙_, ap, subst, Bool, true, false, true≢false, ⊎-elim, ℕ, zero, suc}
+use Rattle.common.proofs.Ground.{_≤_, _<_, arith, not-suc-le-zero, lt-ltb, le-ltb}
 use Rattle.common.proofs.Cases.{le-or-lt}
 use Rattle.net.specs.declared.Choice.{Choice}
 use Rattle.net.specs.declared.Choice.the-variants.{Station, Nobody}

@@ -1,16 +1,10 @@
 -- Page lists: what one more reference does to how often a page stands in a list; and that a part of a list, entries
 -- left out and order kept, takes no more one-page reads. The latter by a triangle: to hold another page first saves
 -- nothing.
-use mathlib.Core.Path.{_≡_, refl}
-use mathlib.Core.List.{List, [], _∷_, _++_, append-nil, List·Memᴰ, List·Memᴰ·head, List·Memᴰ·tail, Sublistᴰ}
-use mathlib.Core.List.{Sublistᴰ·slnil, Sublistᴰ·cons, Sublistᴰ·cons-cons, Sublistᴰ·append, Sublistᴰ·refl}
-use mathlib.Core.List.{Sublistᴰ·nil-sublist}
-use mathlib.Core.Bool.{Bool, true, false, not}
-use Prim.Native.Nat.{ℕ, suc, _+_, _≤_, _<_}
-use native.Mathlib.Omega.{arith}
-use lib.ListN.{length, length-append}
-use lib.Dec.{eqb}
-use borrow.Author.Tests.{eqb-true, eq-eqb}
+use Rattle.common.proofs.Ground.{_≡_, refl, Bool, true, false, not, List, [], _∷_, _++_, append-nil, List·Memᴰ}
+use Rattle.common.proofs.Ground.{List·Memᴰ·head, List·Memᴰ·tail, Sublistᴰ, Sublistᴰ·slnil, Sublistᴰ·cons}
+use Rattle.common.proofs.Ground.{Sublistᴰ·cons-cons, Sublistᴰ·append, Sublistᴰ·refl, Sublistᴰ·nil-sublist, ℕ, suc, _+_}
+use Rattle.common.proofs.Ground.{_≤_, _<_, arith, length, length-append, eqb, eqb-true, eq-eqb}
 use Rattle.net.specs.Net.{one, timesIn, changes, onePageReads}
 
 -- one more reference

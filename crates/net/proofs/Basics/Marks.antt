@@ -1,16 +1,8 @@
 -- The marks: to settle a station changes no station's freshness and settles no other; to mark it fresh, or no longer
 -- fresh, changes no station's settledness. By arithmetic on one mark, and by reading a table after one entry was set.
-use mathlib.Core.Path.{_≡_, refl, ap}
-use mathlib.Core.Logic.{_≢_, dite}
-use mathlib.Core.List.{List, [], _∷_}
-use mathlib.Core.Bool.{true}
-use Prim.Native.Nat.{ℕ, zero, suc, _%_, _≤_, _<_}
-use native.Mathlib.Decide.{ℕ-discrete}
-use native.Mathlib.Omega.{arith}
-use lib.ListN.{length, getD, set, replicate}
-use lib.Seq.{getD-set-same, getD-set-other}
-use lib.Dec.{leb, eqb}
-use borrow.Author.Tests.{leb-true, leb-false, le-leb, lt-leb, eq-eqb}
+use Rattle.common.proofs.Ground.{_≡_, refl, ap, true, _≢_, dite, List, [], _∷_, ℕ, zero, suc, _%_, _≤_, _<_, arith}
+use Rattle.common.proofs.Ground.{ℕ-discrete, length, getD, set, replicate, getD-set-same, getD-set-other, leb, eqb}
+use Rattle.common.proofs.Ground.{leb-true, leb-false, le-leb, lt-leb, eq-eqb}
 use Rattle.net.specs.Search.{State, markOf, isSettled, isFresh, settle, markFresh}
 use Rattle.net.proofs.Basics.Tests.{same-test}
 

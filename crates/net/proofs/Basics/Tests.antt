@@ -1,12 +1,7 @@
 -- Tests joined by `&&` and `||` taken apart and put together, and the cases of two numbers. Each is by the cases of
 -- its tests.
-use mathlib.Core.Path.{_≡_, refl}
-use mathlib.Core.Logic.{_⊎_, inl, inr}
-use mathlib.Core.Bool.{Bool, true, false, not, _&&_, _||_}
-use Prim.Native.Nat.{ℕ, suc, _≤_, _<_}
-use native.Mathlib.Omega.{arith}
-use lib.Dec.{ltb}
-use borrow.Author.Tests.{ltb-true, ltb-false}
+use Rattle.common.proofs.Ground.{_≡_, refl, Bool, true, false, not, _&&_, _||_, _⊎_, inl, inr, ℕ, suc, _≤_, _<_, arith}
+use Rattle.common.proofs.Ground.{ltb, ltb-true, ltb-false}
 
 pub and-left : (a b : Bool) → a && b ≡ true → a ≡ true
 and-left true b e = refl

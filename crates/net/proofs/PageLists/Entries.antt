@@ -1,14 +1,9 @@
 -- Between DF steps, whoever has a time and is stale is an entry station: the source, or the target of a move from a
 -- station on another listed page. For only a relaxed move makes a station stale or gives it a time, and while a
 -- page is in hand the loop works off whatever its own moves make stale on it.
-use mathlib.Core.Path.{_≡_, refl, sym, _∙_, ap}
-use mathlib.Core.Logic.{_⊎_, inl, inr, _≢_, ⊎-elim, dite}
-use mathlib.Core.List.{List, [], _∷_, _++_, List·Memᴰ, List·Memᴰ·head, Memᴰ·append-left, Memᴰ·append-right}
-use mathlib.Core.Bool.{Bool, true, false, true≢false}
-use Prim.Native.Nat.{ℕ, _+_, _<_}
-use native.Mathlib.Decide.{ℕ-discrete}
-use native.Mathlib.Omega.{arith}
-use lib.Dec.{ltb}
+use Rattle.common.proofs.Ground.{_≡_, refl, sym, _∙_, ap, Bool, true, false, true≢false, _⊎_, inl, inr, _≢_, ⊎-elim}
+use Rattle.common.proofs.Ground.{dite, List, [], _∷_, _++_, List·Memᴰ, List·Memᴰ·head, Memᴰ·append-left}
+use Rattle.common.proofs.Ground.{Memᴰ·append-right, ℕ, _+_, _<_, arith, ℕ-discrete, ltb}
 use Rattle.net.specs.declared.Choice.the-variants.{Nobody}
 use Rattle.net.specs.Net.{Move, Page, good, bad, Frame, Goes}
 use Rattle.net.specs.Search.{State, going, timeOf, isFresh, settle, withPage, markFresh, start, onPage, readFor}

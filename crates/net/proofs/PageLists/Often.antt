@@ -1,13 +1,8 @@
 -- No page stands in the DF list more often than it has entry stations: at each reference one more entry station of
 -- that page is settled, and whoever is an entry station stays one while the list grows.
-use mathlib.Core.Path.{_≡_, refl, sym, _∙_, ap, subst}
-use mathlib.Core.Logic.{inl, inr, ⊎-elim}
-use mathlib.Core.List.{List, [], _∷_, _++_, List·Memᴰ, List·Memᴰ·head, List·Memᴰ·tail}
-use mathlib.Core.Bool.{Bool, true, false, not, _&&_}
-use Prim.Native.Nat.{ℕ, _+_, _≤_, _<_}
-use native.Mathlib.Omega.{arith}
-use lib.Dec.{ltb, eqb}
-use borrow.Author.Tests.{ltb-true, lt-ltb, eqb-true, eq-eqb, ne-eqb}
+use Rattle.common.proofs.Ground.{_≡_, refl, sym, _∙_, ap, subst, Bool, true, false, not, _&&_, inl, inr, ⊎-elim, List}
+use Rattle.common.proofs.Ground.{[], _∷_, _++_, List·Memᴰ, List·Memᴰ·head, List·Memᴰ·tail, ℕ, _+_, _≤_, _<_, arith}
+use Rattle.common.proofs.Ground.{ltb, eqb, ltb-true, lt-ltb, eqb-true, eq-eqb, ne-eqb}
 use Rattle.net.specs.Net.{Move, Page, Frame, movesOf, one, count, timesIn, movesTo, entersFrom, isEntry}
 use Rattle.net.specs.Net.{entryStations}
 use Rattle.net.specs.Search.{State, going, isFresh, isSettled, start, iter, dfVisit}

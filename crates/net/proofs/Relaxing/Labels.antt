@@ -2,17 +2,9 @@
 -- accounts for no more than the time. A time is at most `longest` for each nearer station, since a station is
 -- lowered from a nearer one: so a further move still stays below none, and no argument about repeated stations is
 -- needed.
-use mathlib.Core.Path.{_≡_, refl, _∙_}
-use mathlib.Core.Logic.{_⊎_, _≢_, ⊎-elim, dite}
-use mathlib.Core.List.{List, List·Memᴰ}
-use mathlib.Core.Bool.{Bool, true}
-use Prim.Native.Nat.{ℕ, _+_, _*_, _≤_, _<_}
-use native.Mathlib.Nat.{mul-le-mul-right}
-use native.Mathlib.Decide.{ℕ-discrete}
-use native.Mathlib.Omega.{arith}
-use lib.ListN.{List·getD-eq-default}
-use lib.Dec.{ltb}
-use borrow.Author.Tests.{ltb-true, lt-ltb, le-ltb}
+use Rattle.common.proofs.Ground.{_≡_, refl, _∙_, Bool, true, _⊎_, _≢_, ⊎-elim, dite, List, List·Memᴰ, ℕ, _+_, _*_, _≤_}
+use Rattle.common.proofs.Ground.{_<_, arith, ℕ-discrete, mul-le-mul-right, List·getD-eq-default, ltb, ltb-true, lt-ltb}
+use Rattle.common.proofs.Ground.{le-ltb}
 use Rattle.common.proofs.Cases.{le-or-lt}
 use Rattle.common.specs.Numbers.{sourceMark, noPred}
 use Rattle.net.specs.Net.{Move, Page, Frame, isGood, movesOf, Goes, Walk, onward, count}

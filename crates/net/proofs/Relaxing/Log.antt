@@ -1,11 +1,7 @@
 -- The page list and the halt change only where a page is read: relaxing and working a page through leave both alone.
 -- For any comparison and any net, by following the definitions; every other file takes list and halt from here, and
 -- the DF step by its two cases.
-use mathlib.Core.Path.{_≡_, refl, _∙_, ap}
-use mathlib.Core.List.{List, [], _∷_, _++_}
-use mathlib.Core.Bool.{Bool, true, false, _&&_}
-use Prim.Native.Nat.{ℕ, _+_}
-use lib.Dec.{ltb, eqb}
+use Rattle.common.proofs.Ground.{_≡_, refl, _∙_, ap, Bool, true, false, _&&_, List, [], _∷_, _++_, ℕ, _+_, ltb, eqb}
 use Rattle.common.specs.Pick.{pick}
 use Rattle.net.specs.declared.Choice.{Choice}
 use Rattle.net.specs.declared.Choice.the-variants.{Station, Nobody}

@@ -1,18 +1,11 @@
 -- One relaxed move seen from outside: its target is lowered, or tied, or kept, and no other station's entries
 -- change. Then all moves of one station u together: times only fall, never to u's own time or below it; whoever is
 -- no later than u keeps its entries; and whoever is still fresh has kept its time.
-use mathlib.Core.Path.{_≡_, refl, sym, _∙_}
-use mathlib.Core.Logic.{_≢_, ⊎-elim, dite}
-use mathlib.Core.List.{List, [], _∷_, _++_, List·Memᴰ, List·Memᴰ·head, List·Memᴰ·tail, List·Memᴰ·cases-cons}
-use mathlib.Core.List.{List·Memᴰ·not-nil}
-use mathlib.Core.Bool.{Bool, true, false, true≢false}
-use Prim.Native.Nat.{ℕ, _+_, _%_, _≤_, _<_}
-use native.Mathlib.Decide.{ℕ-discrete}
-use native.Mathlib.Omega.{arith}
-use lib.ListN.{length, getD, set, length-set}
-use lib.Seq.{getD-set-same, getD-set-other}
-use lib.Dec.{ltb}
-use borrow.Author.Tests.{lt-ltb, le-ltb, eq-eqb, ne-eqb, lt-leb}
+use Rattle.common.proofs.Ground.{_≡_, refl, sym, _∙_, Bool, true, false, true≢false, _≢_, ⊎-elim, dite, List, [], _∷_}
+use Rattle.common.proofs.Ground.{_++_, List·Memᴰ, List·Memᴰ·head, List·Memᴰ·tail, List·Memᴰ·cases-cons}
+use Rattle.common.proofs.Ground.{List·Memᴰ·not-nil, ℕ, _+_, _%_, _≤_, _<_, arith, ℕ-discrete, length, getD, set}
+use Rattle.common.proofs.Ground.{length-set, getD-set-same, getD-set-other, ltb, lt-ltb, le-ltb, eq-eqb, ne-eqb}
+use Rattle.common.proofs.Ground.{lt-leb}
 use Rattle.common.proofs.Cases.{le-or-lt}
 use Rattle.net.specs.Net.{Frame, Move}
 use Rattle.net.specs.Search.{State, withTables, timeOf, predOf, markOf, isFresh, isSettled, relaxTo, relax}

@@ -1,16 +1,8 @@
 -- A search that has ended and was not refused meets demand 2: every timed station is settled, so its moves are met
 -- and its time is least. The predecessors lead to the source because times fall along them; a station has fewer
 -- than N nearer ones, so they do within N - 1 steps. And demand 2 leaves no freedom: it fixes both tables.
-use mathlib.Core.Path.{_≡_, refl, sym, _∙_}
-use mathlib.Core.Logic.{_⊎_, inl, inr, _≢_, ⊎-elim, dite}
-use mathlib.Core.List.{List}
-use mathlib.Core.Bool.{Bool, true}
-use Prim.Native.Nat.{ℕ, zero, suc, _+_, _≤_, _<_}
-use native.Mathlib.Nat.{not-suc-le-zero}
-use native.Mathlib.Decide.{ℕ-discrete}
-use native.Mathlib.Omega.{arith}
-use lib.ListN.{getD}
-use lib.Seq.{ext-getD}
+use Rattle.common.proofs.Ground.{_≡_, refl, sym, _∙_, Bool, true, _⊎_, inl, inr, _≢_, ⊎-elim, dite, List, ℕ, zero, suc}
+use Rattle.common.proofs.Ground.{_+_, _≤_, _<_, arith, ℕ-discrete, not-suc-le-zero, getD, ext-getD}
 use Rattle.common.proofs.Cases.{le-or-lt}
 use Rattle.common.specs.Numbers.{sourceMark, noPred}
 use Rattle.net.specs.declared.Choice.the-variants.{Nobody}

@@ -1,13 +1,8 @@
 -- "v has no time, or sum is less" and the one comparison "sum is less" are the same: no sum that relaxing forms
 -- reaches none, at any relaxed move of either search, in the page loop too. So the searches by the letter of
 -- document 01 equal those with the one comparison, of which all other laws are proved.
-use mathlib.Core.Path.{_≡_, refl, sym, _∙_, ap}
-use mathlib.Core.List.{List, [], _∷_, List·Memᴰ, List·Memᴰ·head, List·Memᴰ·tail}
-use mathlib.Core.Bool.{Bool, true, false, not, _||_}
-use Prim.Native.Nat.{ℕ, _+_, _<_}
-use native.Mathlib.Omega.{arith}
-use lib.Dec.{ltb}
-use borrow.Author.Tests.{ltb-false, lt-ltb}
+use Rattle.common.proofs.Ground.{_≡_, refl, sym, _∙_, ap, Bool, true, false, not, _||_, List, [], _∷_, List·Memᴰ}
+use Rattle.common.proofs.Ground.{List·Memᴰ·head, List·Memᴰ·tail, ℕ, _+_, _<_, arith, ltb, ltb-false, lt-ltb}
 use Rattle.net.specs.declared.Choice.{Choice}
 use Rattle.net.specs.declared.Choice.the-variants.{Station, Nobody}
 use Rattle.net.specs.Net.{Move, Page, good, bad, Frame, Goes}

@@ -2,11 +2,7 @@
 -- search has settled the station and the run has not. DF: a step is one of three. Nobody is left, and then nobody
 -- waits; or a fresh station is settled, which nothing but its flag shows; or the station chosen waits, and the step is
 -- a reference for it. So N steps make at most N references, and leave nobody waiting.
-use mathlib.Core.Path.{_≡_, refl, sym, _∙_, ap}
-use mathlib.Core.Bool.{Bool, true, false}
-use Prim.Native.Nat.{ℕ, zero, suc, _+_, _-_, _≤_}
-use native.Mathlib.Omega.{arith}
-use lib.Dec.{ltb}
+use Rattle.common.proofs.Ground.{_≡_, refl, sym, _∙_, ap, Bool, true, false, ℕ, zero, suc, _+_, _-_, _≤_, arith, ltb}
 use Rattle.net.specs.declared.Choice.{Choice}
 use Rattle.net.specs.declared.Choice.the-variants.{Station, Nobody}
 use Rattle.net.specs.Net.{Page, good, bad, Frame}

@@ -1,12 +1,7 @@
 -- A search under way, for any search whose steps settle the chosen station: what holds after any number of steps,
 -- accepted or refused; which page refuses it; and that it ends, since every step settles one more station.
-use mathlib.Core.Path.{_≡_, refl, sym, _∙_, ap}
-use mathlib.Core.Logic.{_⊎_, inl, inr, ⊎-elim}
-use mathlib.Core.List.{List, [], _∷_, _++_}
-use mathlib.Core.Bool.{Bool, true, false, true≢false}
-use Prim.Native.Nat.{ℕ, suc, _≤_, _<_}
-use native.Mathlib.Omega.{arith}
-use lib.ListN.{length}
+use Rattle.common.proofs.Ground.{_≡_, refl, sym, _∙_, ap, Bool, true, false, true≢false, _⊎_, inl, inr, ⊎-elim, List}
+use Rattle.common.proofs.Ground.{[], _∷_, _++_, ℕ, suc, _≤_, _<_, arith, length}
 use Rattle.net.specs.declared.Choice.{Choice}
 use Rattle.net.specs.declared.Choice.the-variants.{Station, Nobody}
 use Rattle.net.specs.Net.{Page, good, bad, Frame, isGood, count}

@@ -1,13 +1,7 @@
 -- The start: only the source has a time, nothing is settled or fresh, and the invariant of either search holds. By
 -- reading tables with one entry set.
-use mathlib.Core.Path.{_≡_, refl, sym, _∙_}
-use mathlib.Core.Logic.{_≢_, dite}
-use mathlib.Core.Bool.{Bool, false, true≢false}
-use Prim.Native.Nat.{ℕ, _<_}
-use native.Mathlib.Decide.{ℕ-discrete}
-use native.Mathlib.Omega.{arith}
-use lib.ListN.{length, set, replicate, length-set, length-replicate}
-use lib.Seq.{getD-set-same, getD-set-other}
+use Rattle.common.proofs.Ground.{_≡_, refl, sym, _∙_, Bool, false, true≢false, _≢_, dite, ℕ, _<_, arith, ℕ-discrete}
+use Rattle.common.proofs.Ground.{length, set, replicate, length-set, length-replicate, getD-set-same, getD-set-other}
 use Rattle.common.specs.Numbers.{sourceMark, noPred}
 use Rattle.net.specs.Net.{Page, Frame, here}
 use Rattle.net.specs.Search.{State, markOf, timeOf, predOf, isFresh, isSettled, start}

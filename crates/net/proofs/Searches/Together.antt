@@ -1,14 +1,8 @@
 -- Both searches side by side, step for step: they choose alike, settle alike and are refused alike, and the DF list
 -- is the plain list with the entries left out at which the station was fresh. Whoever a search chooses has its
 -- least cost, and stations are chosen in rising order of least cost and number.
-use mathlib.Core.Path.{_≡_, refl, sym, _∙_, ap}
-use mathlib.Core.Logic.{⊎-elim, dite}
-use mathlib.Core.List.{Sublistᴰ, Sublistᴰ·slnil}
-use mathlib.Core.Bool.{Bool, true, false, true≢false}
-use Prim.Native.Nat.{ℕ, suc, _+_, _-_, _≤_, _<_}
-use native.Mathlib.Decide.{ℕ-discrete}
-use native.Mathlib.Omega.{arith}
-use lib.Dec.{ltb}
+use Rattle.common.proofs.Ground.{_≡_, refl, sym, _∙_, ap, Bool, true, false, true≢false, ⊎-elim, dite, Sublistᴰ}
+use Rattle.common.proofs.Ground.{Sublistᴰ·slnil, ℕ, suc, _+_, _-_, _≤_, _<_, arith, ℕ-discrete, ltb}
 use Rattle.net.specs.declared.Choice.the-variants.{Station}
 use Rattle.net.specs.Net.{Page, Frame}
 use Rattle.net.specs.Search.{State, Halt, going, refused, timeOf, isSettled, isFresh, settle, start, choose, iter}

@@ -1,11 +1,8 @@
 -- Walks against the times of a search under way: a walk's end is no later than the walk, or the walk costs more
 -- than some station still to be settled. So whoever is chosen has its least cost over walks, and two searches that
 -- have settled the same stations choose alike, whichever stations they have relaxed.
-use mathlib.Core.Path.{_≡_, refl, sym, _∙_, ap}
-use mathlib.Core.Logic.{_⊎_, inl, inr, ⊎-elim}
-use mathlib.Core.Bool.{Bool, true, false, true≢false}
-use Prim.Native.Nat.{ℕ, _+_, _≤_, _<_}
-use native.Mathlib.Omega.{arith}
+use Rattle.common.proofs.Ground.{_≡_, refl, sym, _∙_, ap, Bool, true, false, true≢false, _⊎_, inl, inr, ⊎-elim, ℕ, _+_}
+use Rattle.common.proofs.Ground.{_≤_, _<_, arith}
 use Rattle.common.proofs.Cases.{le-or-lt}
 use Rattle.net.specs.declared.Choice.{Choice}
 use Rattle.net.specs.declared.Choice.the-variants.{Station, Nobody}

@@ -1,16 +1,10 @@
 -- Whom a search chooses to settle, and whom the page loop chooses to relax, said with times and flags in place of
 -- tests. Both from what `least` finds; stations without a time need not be told apart from numbers past the tables.
-use mathlib.Core.Path.{_≡_, sym, _∙_, ap}
-use mathlib.Core.Logic.{_≢_, ⊎-elim, dite}
-use mathlib.Core.Bool.{Bool, true, false, not, true≢false}
-use Prim.Native.Nat.{ℕ, _≤_, _<_}
-use native.Mathlib.Decide.{ℕ-discrete}
-use native.Mathlib.Omega.{arith}
-use borrow.Author.Tests.{lt-ltb, le-ltb, eq-eqb, ne-eqb}
+use Rattle.common.proofs.Ground.{_≡_, sym, _∙_, ap, Bool, true, false, not, true≢false, _≢_, ⊎-elim, dite, List, ℕ}
+use Rattle.common.proofs.Ground.{_≤_, _<_, arith, ℕ-discrete, lt-ltb, le-ltb, eq-eqb, ne-eqb}
 use Rattle.common.proofs.Cases.{le-or-lt}
 use Rattle.net.specs.declared.Choice.{Choice}
 use Rattle.net.specs.declared.Choice.the-variants.{Station, Nobody}
-use mathlib.Core.List.{List}
 use Rattle.net.specs.Net.{Move, Frame}
 use Rattle.net.specs.Search.{State, Halt, going, refused, timeOf, isSettled, isFresh, chooseAt, choose, chooseOn}
 use Rattle.net.specs.Search.{onChoice, visit, workTurn, stepBy}

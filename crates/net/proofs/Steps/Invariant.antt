@@ -1,13 +1,8 @@
 -- What holds between the steps of either search. The stations whose moves have been relaxed at their present times
 -- are the fresh ones in the DF search and the settled ones in the plain search: the invariant is over either. It
 -- survives because all that a step does happens at the settled station's time or later, so what is no later stays.
-use mathlib.Core.Path.{_≡_, refl, sym, _∙_}
-use mathlib.Core.Logic.{_⊎_, inl, inr, ⊎-elim, dite}
-use mathlib.Core.Bool.{Bool, true, false}
-use Prim.Native.Nat.{ℕ, _+_, _*_, _/_, _≤_, _<_}
-use native.Mathlib.Decide.{ℕ-discrete}
-use native.Mathlib.Omega.{arith}
-use lib.ListN.{length-set}
+use Rattle.common.proofs.Ground.{_≡_, refl, sym, _∙_, Bool, true, false, _⊎_, inl, inr, ⊎-elim, dite, ℕ, _+_, _*_, _/_}
+use Rattle.common.proofs.Ground.{_≤_, _<_, arith, ℕ-discrete, length-set}
 use Rattle.common.proofs.Cases.{le-or-lt}
 use Rattle.net.specs.Net.{Page, Frame}
 use Rattle.net.specs.Search.{State, markOf, timeOf, predOf, isFresh, isSettled, settle}

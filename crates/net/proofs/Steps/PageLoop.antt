@@ -1,16 +1,9 @@
 -- Working a page through. A visit marks a station fresh and relaxes its moves; the loop visits the page's stations
 -- until none that has a time is stale. It ends: the number of the page's stations that are fresh and no later than
 -- the last one visited rises at each turn, so there are no more turns than the page has stations.
-use mathlib.Core.Path.{_≡_, refl, sym, _∙_, ap}
-use mathlib.Core.Logic.{_⊎_, inl, inr, ⊎-elim, dite}
-use mathlib.Core.List.{List}
-use mathlib.Core.Bool.{Bool, true, false, _&&_, true≢false}
-use Prim.Native.Nat.{ℕ, suc, _+_, _-_, _%_, _≤_, _<_}
-use native.Mathlib.Decide.{ℕ-discrete}
-use native.Mathlib.Omega.{arith}
-use lib.ListN.{length, length-set}
-use lib.Dec.{ltb, leb, eqb}
-use borrow.Author.Tests.{leb-true, le-leb, eq-eqb}
+use Rattle.common.proofs.Ground.{_≡_, refl, sym, _∙_, ap, Bool, true, false, _&&_, true≢false, _⊎_, inl, inr, ⊎-elim}
+use Rattle.common.proofs.Ground.{dite, List, ℕ, suc, _+_, _-_, _%_, _≤_, _<_, arith, ℕ-discrete, length, length-set}
+use Rattle.common.proofs.Ground.{ltb, leb, eqb, leb-true, le-leb, eq-eqb}
 use Rattle.common.proofs.Cases.{le-or-lt}
 use Rattle.net.specs.declared.Choice.{Choice}
 use Rattle.net.specs.declared.Choice.the-variants.{Station, Nobody}

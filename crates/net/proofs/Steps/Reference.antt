@@ -2,11 +2,7 @@
 -- stations are fresh, so those that wait are unsettled: with nobody left to choose nobody waits, and a station that is
 -- chosen and waits is the first of all that do, also on its page. So its visit and the page loop are one turn more of
 -- that loop.
-use mathlib.Core.Path.{_≡_, sym, _∙_, ap}
-use mathlib.Core.List.{List}
-use mathlib.Core.Bool.{true, false, true≢false}
-use Prim.Native.Nat.{ℕ}
-use lib.Dec.{ltb}
+use Rattle.common.proofs.Ground.{_≡_, sym, _∙_, ap, true, false, true≢false, List, ℕ, ltb}
 use Rattle.net.specs.declared.Choice.the-variants.{Station, Nobody}
 use Rattle.net.specs.Net.{Move, Page, good, bad, Frame}
 use Rattle.net.specs.Search.{State, going, refused, withPage, withHalt, settle, isFresh, isSettled, iter}

@@ -1,12 +1,8 @@
 -- What holds in a run (specs/Run) between references and between the turns of the page in hand, for either search. In
 -- the DF search any visits keep it; in the plain search the one visit is that of the station to settle next. So it
 -- holds after every number of references, whether or not a bad page ended the search. And how a turn ends.
-use mathlib.Core.Path.{_≡_, refl, sym, _∙_, ap, subst}
-use mathlib.Core.List.{List, [], _∷_, _++_}
-use mathlib.Core.Bool.{Bool, true, false}
-use Prim.Native.Nat.{ℕ, zero, suc, _+_, _-_, _≤_}
-use native.Mathlib.Omega.{arith}
-use lib.Dec.{ltb, eqb}
+use Rattle.common.proofs.Ground.{_≡_, refl, sym, _∙_, ap, subst, Bool, true, false, List, [], _∷_, _++_, ℕ, zero, suc}
+use Rattle.common.proofs.Ground.{_+_, _-_, _≤_, arith, ltb, eqb}
 use Rattle.net.specs.declared.Choice.{Choice}
 use Rattle.net.specs.declared.Choice.the-variants.{Station, Nobody}
 use Rattle.net.specs.Net.{Move, Page, good, bad, Frame, count}

@@ -1,13 +1,8 @@
 -- Settled flags forgotten. Only the choice of whom to settle looks at them: freshness, the first that waits in the DF
 -- search, and so relaxing, visits and turns of the page loop are the same without. By arithmetic on one mark, then by
 -- following the definitions; for any net.
-use mathlib.Core.Path.{_≡_, refl, sym, _∙_, ap}
-use mathlib.Core.List.{List, [], _∷_}
-use mathlib.Core.Bool.{Bool, true, false, _&&_}
-use Prim.Native.Nat.{ℕ, zero, suc, _+_, _*_, _/_, _%_}
-use native.Mathlib.Omega.{arith}
-use lib.ListN.{getD, set, replicate}
-use lib.Dec.{ltb, eqb}
+use Rattle.common.proofs.Ground.{_≡_, refl, sym, _∙_, ap, Bool, true, false, _&&_, List, [], _∷_, ℕ, zero, suc, _+_}
+use Rattle.common.proofs.Ground.{_*_, _/_, _%_, arith, getD, set, replicate, ltb, eqb}
 use Rattle.common.specs.Pick.{pick}
 use Rattle.net.specs.declared.Choice.{Choice}
 use Rattle.net.specs.declared.Choice.the-variants.{Station, Nobody}

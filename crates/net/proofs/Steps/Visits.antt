@@ -1,12 +1,7 @@
 -- What settling the chosen station comes to, in either search: the invariant holds again unless the page is bad; that
 -- station and no other is settled; the page is listed, or, in the DF search of a fresh station, was read before.
-use mathlib.Core.Path.{_≡_, refl, sym, _∙_, ap}
-use mathlib.Core.Logic.{_⊎_, inl, inr, ⊎-elim}
-use mathlib.Core.List.{List, [], _∷_, _++_}
-use mathlib.Core.Bool.{Bool, true, false, true≢false}
-use Prim.Native.Nat.{ℕ}
-use native.Mathlib.Omega.{arith}
-use lib.Dec.{ltb}
+use Rattle.common.proofs.Ground.{_≡_, refl, sym, _∙_, ap, Bool, true, false, true≢false, _⊎_, inl, inr, ⊎-elim, List}
+use Rattle.common.proofs.Ground.{[], _∷_, _++_, ℕ, arith, ltb}
 use Rattle.net.specs.Net.{Move, Page, good, bad, Frame, isGood}
 use Rattle.net.specs.Search.{State, going, timeOf, predOf, isFresh, isSettled, settle, withPage, onPage, readFor}
 use Rattle.net.specs.Search.{relaxAll, visit, workThrough, plainVisit, dfVisit}

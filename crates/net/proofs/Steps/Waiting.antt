@@ -1,12 +1,7 @@
 -- Who waits in a state (specs/Run), and who is first of all that do, of a whole map and of a page: said with times and
 -- flags in place of tests, and the first of all by the firsts of the pages. For either search, from what `least` finds.
-use mathlib.Core.Path.{_≡_, refl, sym, _∙_, ap}
-use mathlib.Core.List.{List}
-use mathlib.Core.Bool.{Bool, true, false, not, _&&_}
-use Prim.Native.Nat.{ℕ, _<_}
-use native.Mathlib.Omega.{arith}
-use lib.Dec.{eqb}
-use borrow.Author.Tests.{ltb-true, lt-ltb, eqb-true, eq-eqb, not-true}
+use Rattle.common.proofs.Ground.{_≡_, refl, sym, _∙_, ap, Bool, true, false, not, _&&_, List, ℕ, _<_, arith, eqb}
+use Rattle.common.proofs.Ground.{ltb-true, lt-ltb, eqb-true, eq-eqb, not-true}
 use Rattle.net.specs.declared.Choice.the-variants.{Station, Nobody}
 use Rattle.net.specs.Net.{Frame}
 use Rattle.net.specs.Search.{State, Halt, going, refused, timeOf, hasTime, choose}

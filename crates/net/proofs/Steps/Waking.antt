@@ -1,16 +1,9 @@
 -- Who waits (specs/Run) while a station x is visited: x stops waiting, and each relaxed move makes its target wait if
 -- it lowers it, and changes nobody else. In the DF search a lowered station is not fresh; in the plain search none that
 -- is settled is lowered, since settled stations are no later than x and every move weighs something.
-use mathlib.Core.Path.{_≡_, refl, sym, _∙_}
-use mathlib.Core.Logic.{_≢_, ⊎-elim, dite}
-use mathlib.Core.List.{List, List·Memᴰ}
-use mathlib.Core.Bool.{Bool, true, false, not, _&&_, _||_, true≢false}
-use Prim.Native.Nat.{ℕ, _+_, _≤_, _<_}
-use native.Mathlib.Decide.{ℕ-discrete}
-use native.Mathlib.Omega.{arith}
-use lib.ListN.{length}
-use lib.Dec.{ltb, eqb}
-use borrow.Author.Tests.{lt-ltb, le-ltb, eq-eqb, ne-eqb}
+use Rattle.common.proofs.Ground.{_≡_, refl, sym, _∙_, Bool, true, false, not, _&&_, _||_, true≢false, _≢_, ⊎-elim}
+use Rattle.common.proofs.Ground.{dite, List, List·Memᴰ, ℕ, _+_, _≤_, _<_, arith, ℕ-discrete, length, ltb, eqb, lt-ltb}
+use Rattle.common.proofs.Ground.{le-ltb, eq-eqb, ne-eqb}
 use Rattle.net.specs.Net.{Move, Page, Frame, Goes}
 use Rattle.net.specs.Search.{State, timeOf, predOf, isSettled, isFresh, relax, relaxAll}
 use Rattle.net.specs.Run.{isDone, stopWaiting, waits}

@@ -1,14 +1,7 @@
 -- The moves that a good page gives a station: each leads to another station of the map and takes 1 to 65,535 tenths of
 -- a second. For the crates above, which never see how a page is spelled.
-use mathlib.Core.Path.{_≡_, refl, subst}
-use mathlib.Core.Logic.{⊎-elim}
-use mathlib.Core.Bool.{Bool, true, false}
-use mathlib.Core.List.{List, [], _∷_, List·Memᴰ, List·Memᴰ·cases-cons, List·Memᴰ·not-nil}
-use Prim.Native.Nat.{ℕ, _+_}
-use native.Mathlib.Omega.{arith}
-use lib.Dec.{eqb}
-use lib.ListN.{length}
-use borrow.Author.Tests.{eqb-true}
+use Rattle.common.proofs.Ground.{_≡_, refl, subst, Bool, true, false, ⊎-elim, List, [], _∷_, List·Memᴰ}
+use Rattle.common.proofs.Ground.{List·Memᴰ·cases-cons, List·Memᴰ·not-nil, ℕ, _+_, arith, length, eqb, eqb-true}
 use Rattle.common.proofs.Cases.{never}
 use Rattle.common.specs.Pick.{pick}
 use Rattle.page.specs.declared.Move.{Move}

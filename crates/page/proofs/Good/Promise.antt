@@ -1,14 +1,8 @@
 -- What a page read as good promises, by induction over its commands: its stations are those of the directory, their
 -- moves are as the format says, and its bytes are those that the content spells.
-use mathlib.Core.Path.{_≡_, refl, ap, sym, _∙_, subst}
-use mathlib.Core.Logic.{dite}
-use mathlib.Core.Bool.{true, false}
-use mathlib.Core.List.{List, [], _∷_}
-use Prim.Native.Nat.{ℕ, zero, suc, _+_, _-_, _/_, _%_}
-use native.Mathlib.Decide.{ℕ-discrete}
-use native.Mathlib.Omega.{arith}
-use lib.ListN.{length, drop, replicate, length-drop}
-use borrow.Author.Tests.{eq-eqb, ne-eqb}
+use Rattle.common.proofs.Ground.{_≡_, refl, ap, sym, _∙_, subst, true, false, dite, List, [], _∷_, ℕ, zero, suc, _+_}
+use Rattle.common.proofs.Ground.{_-_, _/_, _%_, arith, ℕ-discrete, length, drop, replicate, length-drop, eq-eqb}
+use Rattle.common.proofs.Ground.{ne-eqb}
 use Rattle.common.proofs.Cases.{never}
 use Rattle.page.specs.declared.Move.{Move}
 use Rattle.page.specs.declared.Command.{Command}

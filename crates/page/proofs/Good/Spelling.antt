@@ -1,14 +1,7 @@
 -- Commands and the bytes that spell them: a command read stands there byte by byte, and those bytes read as that
 -- command.
-use mathlib.Core.Path.{_≡_, refl, ap, sym, _∙_}
-use mathlib.Core.List.{List, _∷_}
-use Prim.Native.Nat.{ℕ, _+_, _/_, _%_, _≤_, _<_}
-use native.Mathlib.Omega.{arith}
-use native.Mathlib.Nat.{add-zero}
-use native.Mathlib.Numerals.{add-one}
-use lib.ListN.{length, getD, drop, length-drop}
-use lib.Seq.{drop-cons, getD-drop}
-use borrow.Author.Tests.{lt-leb, le-ltb}
+use Rattle.common.proofs.Ground.{_≡_, refl, ap, sym, _∙_, List, _∷_, ℕ, _+_, _/_, _%_, _≤_, _<_, arith, add-one}
+use Rattle.common.proofs.Ground.{add-zero, length, getD, drop, length-drop, drop-cons, getD-drop, lt-leb, le-ltb}
 use Rattle.page.specs.declared.Move.{Move}
 use Rattle.page.specs.declared.Command.the-variants.{End, Station, MoveTo}
 use Rattle.page.specs.Bytes.{word, Bytes}

@@ -1,16 +1,8 @@
 -- The stations that a directory gives a page stand one after the other by `nextOn`. By induction over the directory,
 -- with the cases of whether its first entry is the page.
-use mathlib.Core.Path.{_≡_, refl, sym, _∙_}
-use mathlib.Core.Logic.{dite}
-use mathlib.Core.List.{List, [], _∷_}
-use Prim.Native.Nat.{ℕ, suc, _+_, _≤_, _<_}
-use native.Mathlib.Decide.{ℕ-discrete, decLt}
-use native.Mathlib.Omega.{arith}
-use native.Mathlib.Nat.{add-zero, add-suc, suc-add}
-use native.Mathlib.Numerals.{add-one}
-use lib.ListN.{length, drop, length-drop}
-use lib.Seq.{drop-drop}
-use borrow.Author.Tests.{eq-eqb, ne-eqb}
+use Rattle.common.proofs.Ground.{_≡_, refl, sym, _∙_, dite, List, [], _∷_, ℕ, suc, _+_, _≤_, _<_, arith, ℕ-discrete}
+use Rattle.common.proofs.Ground.{decLt, add-one, add-zero, add-suc, suc-add, length, drop, length-drop, drop-drop}
+use Rattle.common.proofs.Ground.{eq-eqb, ne-eqb}
 use Rattle.common.proofs.Cases.{never}
 use Rattle.page.specs.Reading.{firstOn, nextOn}
 use Rattle.page.specs.Good.{stationsFrom}

@@ -1,14 +1,9 @@
 -- The other half of what a good page is: the bytes that a good content spells, one `00` and zeros read as that
 -- content. By induction over the content: each command's bytes read as that command, and its rules hold. So a page is
 -- good exactly when its bytes are those that its content spells, and the content fixes the bytes.
-use mathlib.Core.Path.{_≡_, refl, ap, sym, _∙_}
-use mathlib.Core.Bool.{true}
-use mathlib.Core.List.{List, [], _∷_}
-use Prim.Native.Nat.{ℕ, zero, suc, _+_, _/_, _%_, _≤_, _<_}
-use native.Mathlib.Omega.{arith}
-use lib.ListN.{length, drop, replicate, length-drop, length-replicate}
-use lib.Seq.{drop-drop}
-use borrow.Author.Tests.{le-ltb, lt-leb, eq-eqb, ne-eqb}
+use Rattle.common.proofs.Ground.{_≡_, refl, ap, sym, _∙_, true, List, [], _∷_, ℕ, zero, suc, _+_, _/_, _%_, _≤_, _<_}
+use Rattle.common.proofs.Ground.{arith, length, drop, replicate, length-drop, length-replicate, drop-drop, le-ltb}
+use Rattle.common.proofs.Ground.{lt-leb, eq-eqb, ne-eqb}
 use Rattle.page.specs.declared.Move.{Move}
 use Rattle.page.specs.declared.Command.the-variants.{End, Station, MoveTo}
 use Rattle.page.specs.Bytes.{Bytes, allZero}

@@ -1,16 +1,8 @@
 -- The station that is due by its slot is the one that the definition calls the next of its page. The next one is on the
 -- page, from `after` on, with none before it: that is what a slot that is due says of its station (layout).
-use mathlib.Core.Path.{_≡_, refl, sym, _∙_}
-use mathlib.Core.Logic.{dite}
-use mathlib.Core.Bool.{Bool, true, false}
-use mathlib.Core.List.{List, [], _∷_}
-use Prim.Native.Nat.{ℕ, zero, suc, _+_, _-_, _≤_, _<_}
-use native.Mathlib.Decide.{ℕ-discrete, decLt}
-use native.Mathlib.Omega.{arith}
-use lib.Dec.{ltb}
-use lib.ListN.{length, getD, drop, length-drop}
-use lib.Seq.{getD-drop}
-use borrow.Author.Tests.{eq-eqb, ne-eqb, lt-ltb, le-ltb, lt-leb, ltb-true, ltb-false}
+use Rattle.common.proofs.Ground.{_≡_, refl, sym, _∙_, Bool, true, false, dite, List, [], _∷_, ℕ, zero, suc, _+_, _-_}
+use Rattle.common.proofs.Ground.{_≤_, _<_, arith, ℕ-discrete, decLt, length, getD, drop, length-drop, getD-drop, ltb}
+use Rattle.common.proofs.Ground.{eq-eqb, ne-eqb, lt-ltb, le-ltb, lt-leb, ltb-true, ltb-false}
 use Rattle.layout.specs.Places.{Placed, firstSlot, slotOf}
 use Rattle.layout.specs.Due.{Due, Next}
 use Rattle.layout.proofs.Compare.{by-order}

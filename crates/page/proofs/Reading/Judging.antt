@@ -1,14 +1,7 @@
 -- What a judgement says of a command: a command that passes is the command read, and its rules hold. Each rule is a
 -- test of numbers, so every fact follows by the cases of the tests.
-use mathlib.Core.Path.{_≡_, refl, ap, sym, _∙_}
-use mathlib.Core.Logic.{_⊎_, inl, inr, ⊎-elim}
-use mathlib.Core.Bool.{Bool, true, false}
-use mathlib.Core.List.{List}
-use Prim.Native.Nat.{ℕ, _+_, _≤_, _<_}
-use native.Mathlib.Omega.{arith}
-use lib.Dec.{eqb, ltb, leb}
-use lib.ListN.{drop}
-use borrow.Author.Tests.{leb-false, ltb-false, eqb-true, eqb-false}
+use Rattle.common.proofs.Ground.{_≡_, refl, ap, sym, _∙_, Bool, true, false, _⊎_, inl, inr, ⊎-elim, List, ℕ, _+_, _≤_}
+use Rattle.common.proofs.Ground.{_<_, arith, drop, eqb, ltb, leb, leb-false, ltb-false, eqb-true, eqb-false}
 use Rattle.common.specs.Pick.{pick}
 use Rattle.common.proofs.Cases.{never}
 use Rattle.page.specs.declared.Move.{Move}

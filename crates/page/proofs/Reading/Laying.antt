@@ -1,14 +1,9 @@
 -- The rows of the stations that have been named so far. The latest station's row has the moves read so far, and the
 -- rest is still to come; the rows of the earlier ones have all their moves. A move is written behind the latest row, in
 -- the page's own room, so that no other row is touched.
-use mathlib.Core.Path.{_≡_, refl, ap, sym, _∙_}
-use mathlib.Core.Logic.{_≢_}
-use mathlib.Core.List.{List, [], _∷_, _++_, map-append, append-assoc}
-use Prim.Native.Nat.{ℕ, _+_, _-_, _*_, _≤_, _<_}
-use native.Mathlib.Nat.{sub-self}
-use native.Mathlib.Omega.{arith}
-use lib.ListN.{length, getD, take, drop, set, length-set}
-use lib.Seq.{getD-set-same}
+use Rattle.common.proofs.Ground.{_≡_, refl, ap, sym, _∙_, _≢_, List, [], _∷_, _++_, map-append, append-assoc, ℕ, _+_}
+use Rattle.common.proofs.Ground.{_-_, _*_, _≤_, _<_, arith, sub-self, length, getD, take, drop, set, length-set}
+use Rattle.common.proofs.Ground.{getD-set-same}
 use Rattle.layout.specs.Rows.{entryOf, beginOf, endOf, Laid}
 use Rattle.layout.proofs.Rows.{between-more, begin-kept, end-kept, laid-end, laid-new}
 use Rattle.layout.proofs.Rows.{laid-other-page, laid-behind, laid-other-begin, laid-other-end}

@@ -1,12 +1,6 @@
 -- Commands at an offset: the table of their lengths, what stands there if one is read, and each command by its code.
-use mathlib.Core.Path.{_≡_, refl, subst}
-use mathlib.Core.Bool.{Bool, true, false}
-use mathlib.Core.List.{List}
-use Prim.Native.Nat.{ℕ, zero, suc, _+_, _≤_, _<_}
-use native.Mathlib.Omega.{arith}
-use lib.Dec.{lit≤, eqb, ltb, leb}
-use lib.ListN.{length, getD}
-use borrow.Author.Tests.{ltb-false, eqb-true, eqb-false, lt-leb, le-ltb, lt-ltb}
+use Rattle.common.proofs.Ground.{_≡_, refl, subst, Bool, true, false, List, ℕ, zero, suc, _+_, _≤_, _<_, arith, length}
+use Rattle.common.proofs.Ground.{getD, lit≤, eqb, ltb, leb, ltb-false, eqb-true, eqb-false, lt-leb, le-ltb, lt-ltb}
 use Rattle.common.specs.Pick.{pick}
 use Rattle.page.specs.declared.Command.{Command}
 use Rattle.page.specs.declared.Command.the-variants.{End, Station, MoveTo, Fault}

@@ -1,14 +1,9 @@
 -- What the reader's loops keep. What is left to read from the offset `at` on decides the verdict on the page, and each
 -- command read is one step of the definition's recursion. If the page is good, the stations named so far have their
 -- rows: by the page's content their moves are those laid out and, of the latest station, those still left to read.
-use mathlib.Core.Path.{_≡_, refl, ap, sym, _∙_, subst}
-use mathlib.Core.Logic.{dite}
-use mathlib.Core.List.{List, [], _∷_, append-nil}
-use Prim.Native.Nat.{ℕ, zero, suc, _+_, _-_, _*_, _≤_, _<_}
-use native.Mathlib.Decide.{decLt, ℕ-discrete}
-use native.Mathlib.Omega.{arith}
-use lib.ListN.{length, getD, set, length-set}
-use borrow.Author.Tests.{eq-eqb, ne-eqb}
+use Rattle.common.proofs.Ground.{_≡_, refl, ap, sym, _∙_, subst, dite, List, [], _∷_, append-nil, ℕ, zero, suc, _+_}
+use Rattle.common.proofs.Ground.{_-_, _*_, _≤_, _<_, arith, decLt, ℕ-discrete, length, getD, set, length-set, eq-eqb}
+use Rattle.common.proofs.Ground.{ne-eqb}
 use Rattle.common.proofs.Cases.{never}
 use Rattle.layout.specs.Places.{Placed, firstSlot, slotOf}
 use Rattle.layout.specs.Rows.{entryOf, endOf}

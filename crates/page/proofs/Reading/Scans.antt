@@ -1,18 +1,8 @@
 -- One step of each scan over bytes: a part of a slice, the first station on a page, the first byte not below a limit,
 -- and whether all is zero. Each definition goes by the list's front, so that a step is one `drop-cons`.
-use mathlib.Core.Path.{_≡_, refl}
-use mathlib.Core.Bool.{Bool, true, false}
-use mathlib.Core.Logic.{dite}
-use native.Mathlib.Decide.{ℕ-discrete}
-use lib.Dec.{eqb}
-use mathlib.Core.List.{List, []}
-use Prim.Native.Nat.{ℕ, zero, _+_, _≤_, _<_}
-use native.Mathlib.Omega.{arith}
-use native.Mathlib.Nat.{add-zero, add-suc, suc-add}
-use native.Mathlib.Numerals.{add-one}
-use lib.ListN.{length, getD, drop, length-drop, drop-of-length-le}
-use lib.Seq.{drop-cons, take-all, take-nil}
-use borrow.Author.Tests.{eq-eqb, ne-eqb, lt-ltb, le-ltb}
+use Rattle.common.proofs.Ground.{_≡_, refl, Bool, true, false, dite, List, [], ℕ, zero, _+_, _≤_, _<_, arith}
+use Rattle.common.proofs.Ground.{ℕ-discrete, add-one, add-zero, add-suc, suc-add, length, getD, drop, length-drop}
+use Rattle.common.proofs.Ground.{drop-of-length-le, drop-cons, take-all, take-nil, eqb, eq-eqb, ne-eqb, lt-ltb, le-ltb}
 use Rattle.common.specs.Pick.{pick}
 use Rattle.page.specs.Bytes.{part, allZero}
 use Rattle.page.specs.Image.{firstNotBelow}

@@ -1,7 +1,6 @@
 -- Both loops keep `Scan`: what was found so far, in the first loop the least of the four accumulators, is the least of
 -- the keys from `lo` up to i.
-use Prim.Native.Nat.{_-_}
-use borrow.Author.Needs.{needs}
+use Rattle.common.proofs.Ground.{_-_, needs}
 use Rattle.queue.proofs.Scan.{Scan, least-of, scan-start, scan-one, scan-four, scan-end}
 use Rattle.queue.proofs.least_between.Statement.{statement}
 use Rattle.queue.proofs.least_between.Tie as tie

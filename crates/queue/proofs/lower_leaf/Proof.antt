@@ -1,8 +1,5 @@
 -- The group of the leaf is lowered by the same key (`put-lower`).
-use native.Mathlib.Omega.{arith}
-use lib.ListN.{length-set}
-use denote.Ref.{now}
-use borrow.Author.Needs.{needs}
+use Rattle.common.proofs.Ground.{arith, length-set, now, needs}
 use Rattle.queue.proofs.Groups.{put-lower}
 use Rattle.queue.proofs.lower_leaf.Statement.{statement}
 use Rattle.queue.proofs.lower_leaf.Tie as tie

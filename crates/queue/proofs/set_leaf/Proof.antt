@@ -1,9 +1,6 @@
 -- The group of the leaf is computed anew (`put-set`).
-use native.Mathlib.Omega.{arith}
-use lib.ListN.{length-set}
-use denote.Ref.{now}
+use Rattle.common.proofs.Ground.{arith, length-set, now, needs}
 use Rattle.queue.proofs.Groups.{put-set}
-use borrow.Author.Needs.{needs}
 use Rattle.queue.proofs.set_leaf.Statement.{statement}
 use Rattle.queue.proofs.set_leaf.Tie as tie
 

@@ -1,7 +1,6 @@
 -- The least of the groups is the least of the leaves (`top-least`).
-use mathlib.Core.Path.{_∙_}
+use Rattle.common.proofs.Ground.{_∙_, needs}
 use Rattle.queue.proofs.Groups.{top-least}
-use borrow.Author.Needs.{needs}
 use Rattle.queue.proofs.top.Statement.{statement}
 use Rattle.queue.proofs.top.Tie as tie
 

@@ -1,8 +1,5 @@
 -- The two ways are the cases of the definition.
-use Prim.Native.Nat.{_/_}
-use native.Mathlib.Omega.{arith}
-use borrow.Author.Tests.{lt-ltb, le-ltb}
-use borrow.Author.Needs.{needs}
+use Rattle.common.proofs.Ground.{_/_, arith, needs, lt-ltb, le-ltb}
 use Rattle.relax.proofs.lowered_key.Statement.{statement}
 use Rattle.relax.proofs.lowered_key.Tie as tie
 

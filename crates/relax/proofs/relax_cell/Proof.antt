@@ -1,8 +1,5 @@
 -- Each table is written once, and the callees' promises say what.
-use mathlib.Core.Path.{ap}
-use lib.ListN.{set}
-use denote.Ref.{now}
-use borrow.Author.Needs.{needs}
+use Rattle.common.proofs.Ground.{ap, set, now, needs}
 use Rattle.relax.proofs.relax_cell.Statement.{statement}
 use Rattle.relax.proofs.relax_cell.Tie as tie
 

@@ -1,6 +1,6 @@
 -- What the cell's function and the leaf's promise, of the key that one hands to the other (`relaxed-by`).
 use Rattle.relax.proofs.Cells.{relaxed-by}
-use borrow.Author.Needs.{needs}
+use Rattle.common.proofs.Ground.{needs}
 use Rattle.relax.proofs.relax_row.Statement.{statement}
 use Rattle.relax.proofs.relax_row.Tie as tie
 

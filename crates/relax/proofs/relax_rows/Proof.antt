@@ -1,6 +1,5 @@
 -- The loop's invariant: the rows up to i are relaxed (`Going`).
-use Prim.Native.Nat.{_-_}
-use borrow.Author.Needs.{needs}
+use Rattle.common.proofs.Ground.{_-_, needs}
 use Rattle.relax.specs.Cells.{memory}
 use Rattle.relax.proofs.Loop.{Going, going-start, going-target, going-more, going-end}
 use Rattle.relax.proofs.relax_rows.Statement.{statement}

@@ -1,8 +1,6 @@
 -- The memory handed to `relax_rows` is the one in which u no longer waits, and its row is what stands in the layout.
-use mathlib.Core.Path.{sym, _∙_}
-use native.Mathlib.Omega.{arith}
+use Rattle.common.proofs.Ground.{sym, _∙_, arith, needs}
 use Rattle.relax.proofs.Rows.{relaxing-room, room-waiting}
-use borrow.Author.Needs.{needs}
 use Rattle.relax.proofs.visit.Statement.{statement}
 use Rattle.relax.proofs.visit.Tie as tie
 

@@ -1,8 +1,6 @@
 -- `route::count_stations` counts the chain's stations (proofs/Counting.antt). The measure is the number of stations
 -- that may still come.
-use Prim.Native.Nat.{_-_}
-use lib.ListN.{length}
-use borrow.Author.Needs.{needs}
+use Rattle.common.proofs.Ground.{_-_, length, needs}
 use Rattle.route.proofs.Counting.{Counting, count-start, count-end, count-source, count-lost, count-onward}
 use Rattle.route.proofs.count_stations.Statement.{statement}
 use Rattle.route.proofs.count_stations.Tie as tie

@@ -1,6 +1,6 @@
 -- `route::route` tells the cases of the definition apart, in its order (proofs/Calls.antt).
 use Rattle.route.proofs.Calls.{call-many, call-no-station, call-none, call-broken, call-short, call-found}
-use borrow.Author.Needs.{needs}
+use Rattle.common.proofs.Ground.{needs}
 use Rattle.route.proofs.route.Statement.{statement}
 use Rattle.route.proofs.route.Tie as tie
 

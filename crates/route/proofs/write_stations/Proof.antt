@@ -1,6 +1,6 @@
 -- `route::write_stations` writes the trail from its end (proofs/Writing.antt). The measure is the number of places left
 -- to write.
-use borrow.Author.Needs.{needs}
+use Rattle.common.proofs.Ground.{needs}
 use Rattle.route.specs.Route.{trail}
 use Rattle.route.proofs.Writing.{Writing, write-start, write-more, write-end}
 use Rattle.route.proofs.write_stations.Statement.{statement}

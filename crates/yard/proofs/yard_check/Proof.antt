@@ -1,12 +1,8 @@
 -- The numbers are those of the check's outcome, and small; `tell` puts them into the answer.
-use mathlib.Core.Path.{_≡_, sym, ap, _∙_, subst}
-use mathlib.Core.List.{List}
-use Prim.Native.Nat.{ℕ}
-use denote.Ref.{now}
+use Rattle.common.proofs.Ground.{_≡_, sym, ap, _∙_, subst, List, ℕ, now, needs}
 use Rattle.page.specs.Check.{wholeCheck}
 use Rattle.yard.specs.Numbers.{toldBy, ofCheck, Small}
 use Rattle.yard.proofs.Small.{small-check}
-use borrow.Author.Needs.{needs}
 use Rattle.yard.proofs.yard_check.Statement.{statement}
 use Rattle.yard.proofs.yard_check.Tie as tie
 

@@ -1,12 +1,9 @@
 -- What `df` promises, of the reply that the numbers tell (proofs/Told.antt).
-use mathlib.Core.Bool.{true}
-use native.Mathlib.Omega.{arith}
-use denote.Ref.{now}
+use Rattle.common.proofs.Ground.{true, arith, now, needs}
 use Rattle.page.specs.Bytes.{Bytes}
 use Rattle.search.specs.Reply.{Query, asked, Lent, lent}
 use Rattle.search.specs.Promises.{DfPromised}
 use Rattle.yard.proofs.Told.{small-numbers, told-promised}
-use borrow.Author.Needs.{needs}
 use Rattle.yard.proofs.yard_df.Statement.{statement}
 use Rattle.yard.proofs.yard_df.Tie as tie
 

@@ -1,13 +1,10 @@
 -- What `plain` promises, of the reply that the numbers tell (proofs/Told.antt).
-use mathlib.Core.Bool.{false}
-use native.Mathlib.Omega.{arith}
-use denote.Ref.{now}
+use Rattle.common.proofs.Ground.{false, arith, now, needs}
 use Rattle.page.specs.Bytes.{Bytes}
 use Rattle.net.specs.Search.{plainSearch}
 use Rattle.search.specs.Reply.{Query, asked, Lent, lent}
 use Rattle.search.specs.Promises.{Promised}
 use Rattle.yard.proofs.Told.{small-numbers, told-promised}
-use borrow.Author.Needs.{needs}
 use Rattle.yard.proofs.yard_plain.Statement.{statement}
 use Rattle.yard.proofs.yard_plain.Tie as tie
 

@@ -1,10 +1,8 @@
 -- The numbers are those of the route's outcome, and small; `tell` puts them into the answer.
-use mathlib.Core.Path.{_≡_, sym, ap, _∙_, subst}
-use denote.Ref.{now}
+use Rattle.common.proofs.Ground.{_≡_, sym, ap, _∙_, subst, now, needs}
 use Rattle.route.specs.Route.{Handed, routeCall}
 use Rattle.yard.specs.Numbers.{toldBy, ofRoute, Small}
 use Rattle.yard.proofs.Small.{small-route}
-use borrow.Author.Needs.{needs}
 use Rattle.yard.proofs.yard_route.Statement.{statement}
 use Rattle.yard.proofs.yard_route.Tie as tie
 

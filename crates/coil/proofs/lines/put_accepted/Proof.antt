@@ -1,7 +1,7 @@
 -- `put_accepted`: two numbers and the line's end behind what `put_source` wrote.
 use Rattle.coil.proofs.Placing.{fronted-more}
 use Rattle.coil.specs.Line.{ascii, named, sourceWords, acceptedLine}
-use borrow.Author.Needs.{needs}
+use Rattle.common.proofs.Ground.{needs}
 use Rattle.coil.proofs.lines.put_accepted.Statement.{statement}
 use Rattle.coil.proofs.lines.put_accepted.Tie as tie
 

@@ -1,5 +1,5 @@
 -- `put_line`: in each arm the answer is known, and the line is that of its reply.
-use borrow.Author.Needs.{needs}
+use Rattle.common.proofs.Ground.{needs}
 use Rattle.coil.proofs.lines.put_line.Statement.{statement}
 use Rattle.coil.proofs.lines.put_line.Tie as tie
 

@@ -1,8 +1,7 @@
 -- `put_refusal`: two numbers and the line's end, each behind what is written already.
 use Rattle.coil.proofs.Placing.{fronted-none, fronted-more}
 use Rattle.coil.specs.Line.{ascii, named, refusalLine}
-use denote.Ref.{now}
-use borrow.Author.Needs.{needs}
+use Rattle.common.proofs.Ground.{now, needs}
 use Rattle.coil.proofs.lines.put_refusal.Statement.{statement}
 use Rattle.coil.proofs.lines.put_refusal.Tie as tie
 

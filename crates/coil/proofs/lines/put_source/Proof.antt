@@ -2,8 +2,7 @@
 -- place is past the most that three numbers of twenty digits take.
 use Rattle.coil.proofs.Placing.{fronted-none, fronted-more}
 use Rattle.coil.specs.Line.{ascii, named, sourceWords}
-use denote.Ref.{now}
-use borrow.Author.Needs.{needs}
+use Rattle.common.proofs.Ground.{now, needs}
 use Rattle.coil.proofs.lines.put_source.Statement.{statement}
 use Rattle.coil.proofs.lines.put_source.Tie as tie
 

@@ -1,8 +1,5 @@
 -- `image_of`: the buffer's length is that of its type, so that what was read is the image (proofs/Turns.antt).
-use mathlib.Core.Path.{sym}
-use native.Mathlib.Omega.{arith}
-use lib.Seq.{length-take-le}
-use denote.Ref.{now}
+use Rattle.common.proofs.Ground.{sym, arith, length-take-le, now}
 use Rattle.coil.proofs.Turns.{image-part, image-full}
 use Rattle.coil.proofs.program.image_of.Statement.{statement}
 use Rattle.coil.proofs.program.image_of.Tie as tie

@@ -1,9 +1,6 @@
 -- `put_number` puts two texts, one behind the other: the name, and what `spell` left at the end of a text of its own,
 -- which is the number's digits, twenty at most.
-use lib.ListN.{length-append}
-use native.Mathlib.Omega.{arith}
-use denote.Ref.{now}
-use borrow.Author.Needs.{needs}
+use Rattle.common.proofs.Ground.{arith, length-append, now, needs}
 use Rattle.coil.specs.Line.{decimal}
 use Rattle.coil.proofs.Placing.{placed-by-two}
 use Rattle.coil.proofs.Digits.{digits-most, from-first}

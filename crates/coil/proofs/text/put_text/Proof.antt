@@ -1,12 +1,6 @@
 -- `put_text`: after i turns the first i bytes of the text stand in the line (lib.Seq's `paste`), and after the last
 -- turn all of them. The measure is what is left of the text.
-use mathlib.Core.Path.{_≡_, refl}
-use Prim.Native.Nat.{_≤_, _-_}
-use native.Mathlib.Omega.{arith}
-use lib.ListN.{length}
-use denote.Ref.{now}
-use lib.Seq.{paste, paste-zero}
-use borrow.Author.Needs.{needs}
+use Rattle.common.proofs.Ground.{_≡_, refl, _≤_, _-_, arith, length, paste, paste-zero, now, needs}
 use Rattle.coil.proofs.Placing.{paste-more, paste-all}
 use Rattle.coil.proofs.text.put_text.Statement.{statement}
 use Rattle.coil.proofs.text.put_text.Tie as tie

@@ -1,11 +1,6 @@
 -- `spell`: at each turn the digits of the rest belong before those that stand already (proofs/Digits.antt). The
 -- measure is the place.
-use mathlib.Core.Path.{sym, _∙_}
-use Prim.Native.Nat.{_-_}
-use lib.ListN.{length-set}
-use native.Mathlib.Omega.{arith}
-use denote.Ref.{now}
-use borrow.Author.Needs.{needs}
+use Rattle.common.proofs.Ground.{sym, _∙_, _-_, arith, length-set, now, needs}
 use Rattle.coil.proofs.Digits.{Spelling, spell-start, spell-last, spell-more}
 use Rattle.coil.proofs.text.spell.Statement.{statement}
 use Rattle.coil.proofs.text.spell.Tie as tie

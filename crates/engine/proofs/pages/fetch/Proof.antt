@@ -1,11 +1,6 @@
 -- A station whose row has an end is on a known page. Otherwise the page is read, and known from then on if it is good
 -- (proofs/Fetching.antt).
-use mathlib.Core.Path.{_≡_, _∙_, subst}
-use Prim.Native.Nat.{_<_}
-use native.Mathlib.Omega.{arith}
-use denote.Ref.{now}
-use lib.ListN.{getD}
-use borrow.Author.Needs.{needs}
+use Rattle.common.proofs.Ground.{_≡_, _∙_, subst, _<_, arith, getD, now, needs}
 use Rattle.page.specs.Image.{directoryOf}
 use Rattle.page.proofs.Parts.{bytes-directory}
 use Rattle.engine.proofs.Fetching.{known-page, read-fetched}

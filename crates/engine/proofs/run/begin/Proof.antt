@@ -1,11 +1,7 @@
 -- The source's cell, its key in its slot and the leaf of its page are what is written; slot and page are those that
 -- `slot_of` and `page_at` promise.
-use mathlib.Core.Path.{refl, ap, subst}
-use denote.Ref.{now}
-use lib.ListN.{set, getD}
-use Prim.Native.Nat.{min}
+use Rattle.common.proofs.Ground.{refl, ap, subst, min, set, getD, now, needs}
 use Rattle.queue.specs.Queue.{Put}
-use borrow.Author.Needs.{needs}
 use Rattle.engine.proofs.run.begin.Statement.{statement}
 use Rattle.engine.proofs.run.begin.Tie as tie
 

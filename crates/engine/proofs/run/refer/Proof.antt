@@ -1,12 +1,7 @@
 -- The least key of all names the station that the net's run refers to next (proofs/Referring.antt). Its page is listed
 -- and fetched; a good one is worked on, which is the state after one reference more, and a bad one ends the search.
-use mathlib.Core.Path.{_≡_, refl, sym, _∙_, ap, subst}
-use Prim.Native.Nat.{ℕ, suc, _%_, _<_}
-use native.Mathlib.Omega.{arith}
-use denote.Ref.{now}
-use lib.ListN.{length, getD}
-use borrow.Author.Needs.{needs}
-use mathlib.Core.List.{List, [], _∷_, _++_}
+use Rattle.common.proofs.Ground.{_≡_, refl, sym, _∙_, ap, subst, List, [], _∷_, _++_, ℕ, suc, _%_, _<_, arith, length}
+use Rattle.common.proofs.Ground.{getD, now, needs}
 use Rattle.common.specs.Numbers.{nobody}
 use Rattle.page.specs.declared.Verdict.{Verdict}
 use Rattle.page.specs.declared.Verdict.the-variants.{Good}

@@ -1,13 +1,7 @@
 -- After each reference the engine stands as the net's run does (`Underway`, proofs/Running.antt). The run ends where
 -- nobody waits, at a bad page, or when as many references as stations were made; that is the end of the search. The
 -- tables keep their lengths.
-use mathlib.Core.Path.{_≡_, refl, sym, _∙_, subst}
-use mathlib.Core.List.{List}
-use Prim.Native.Nat.{ℕ, _-_, _≤_, _<_}
-use native.Mathlib.Omega.{arith}
-use denote.Ref.{now}
-use lib.ListN.{length}
-use borrow.Author.Needs.{needs}
+use Rattle.common.proofs.Ground.{_≡_, refl, sym, _∙_, subst, List, ℕ, _-_, _≤_, _<_, arith, length, now, needs}
 use Rattle.page.specs.Bytes.{Bytes}
 use Rattle.page.specs.Image.{directoryOf}
 use Rattle.page.proofs.Heading.{formed}

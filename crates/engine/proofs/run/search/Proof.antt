@@ -1,11 +1,6 @@
 -- The stations are placed by the directory, and only the source is written into cells, keys and queue that are
 -- nobody's. So a search on the image may begin (proofs/Beginning.antt), and the search ends as the run does.
-use mathlib.Core.Path.{refl, _∙_, ap, subst}
-use mathlib.Core.List.{List}
-use Prim.Native.Nat.{ℕ, _≤_}
-use native.Mathlib.Omega.{arith}
-use denote.Ref.{now}
-use lib.ListN.{length, set}
+use Rattle.common.proofs.Ground.{refl, _∙_, ap, subst, List, ℕ, _≤_, arith, length, set, now, needs}
 use Rattle.page.specs.Bytes.{Bytes}
 use Rattle.page.specs.Image.{directoryOf}
 use Rattle.layout.specs.Places.{Placed}
@@ -13,7 +8,6 @@ use Rattle.page.proofs.Heading.{formed}
 use Rattle.engine.proofs.Beginning.{begin-room, begin-search}
 use Rattle.engine.proofs.Visiting.{placed-at}
 use Rattle.engine.proofs.Referring.{placing-image}
-use borrow.Author.Needs.{needs}
 use Rattle.engine.proofs.run.search.Statement.{statement}
 use Rattle.engine.proofs.run.search.Tie as tie
 

@@ -1,5 +1,5 @@
 -- One more turn than stations, or one: by the flag.
-use borrow.Author.Needs.{needs}
+use Rattle.common.proofs.Ground.{needs}
 use Rattle.engine.proofs.run.turns_of.Statement.{statement}
 use Rattle.engine.proofs.run.turns_of.Tie as tie
 

@@ -1,12 +1,7 @@
 -- The loop keeps `Turned` (proofs/Turning.antt), for whichever search has the page in hand: the memory stands for a
 -- state in the midst of the page's turns, and `least` is the page's least key. Each round is one turn more; at the end
 -- the leaf gets the least key, which is the state after one reference more.
-use Prim.Native.Nat.{ℕ, _<_}
-use mathlib.Core.Path.{sym, _∙_}
-use mathlib.Core.Logic.{inl, inr, ⊎-elim}
-use native.Mathlib.Omega.{arith}
-use borrow.Author.Needs.{needs}
-use borrow.Author.Tests.{ltb-true, ltb-false}
+use Rattle.common.proofs.Ground.{sym, _∙_, inl, inr, ⊎-elim, ℕ, _<_, arith, needs, ltb-true, ltb-false}
 use Rattle.common.specs.Numbers.{nobody}
 use Rattle.relax.specs.Cells.{memory}
 use Rattle.relax.proofs.Rows.{visited-room}

@@ -1,8 +1,5 @@
 -- Within the slice the byte is read, and past its end a list reads as 0.
-use mathlib.Core.Path.{sym}
-use denote.Ref.{now}
-use lib.ListN.{List·getD-eq-default}
-use borrow.Author.Needs.{needs}
+use Rattle.common.proofs.Ground.{sym, List·getD-eq-default, now, needs}
 use Rattle.page.proofs.bytes.byte_at.Statement.{statement}
 use Rattle.page.proofs.bytes.byte_at.Tie as tie
 

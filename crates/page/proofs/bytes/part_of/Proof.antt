@@ -1,15 +1,8 @@
 -- By the cases of where the part ends: past the slice's end it is empty, a part that reaches the end is all that is
 -- left, and any other is cut out as the definition cuts it (proofs/Reading/Scans.antt).
-use Prim.Native.Nat.{_-_}
-use lib.ListN.{length, length-drop}
-use lib.Seq.{take-all, drop-length, take-nil}
-use mathlib.Core.Path.{sym, _∙_}
-use native.Mathlib.Omega.{arith}
-use native.Mathlib.Nat.{add-sub-cancel-left}
-use denote.Ref.{now}
-use lib.ListN.{drop}
+use Rattle.common.proofs.Ground.{sym, _∙_, _-_, arith, add-sub-cancel-left, length, length-drop, drop, take-all}
+use Rattle.common.proofs.Ground.{drop-length, take-nil, now, needs}
 use Rattle.page.proofs.Reading.Scans.{part-past, part-rest}
-use borrow.Author.Needs.{needs}
 use Rattle.page.proofs.bytes.part_of.Statement.{statement}
 use Rattle.page.proofs.bytes.part_of.Tie as tie
 

@@ -1,9 +1,5 @@
 -- Past the end both bytes of a word read as 0. Elsewhere the two bytes read are those of the definition.
-use native.Mathlib.Omega.{arith}
-use denote.Ref.{now}
-use Prim.Native.Nat.{_+_}
-use lib.ListN.{List·getD-eq-default}
-use borrow.Author.Needs.{needs}
+use Rattle.common.proofs.Ground.{_+_, arith, List·getD-eq-default, now, needs}
 use Rattle.page.proofs.bytes.word_at.Statement.{statement}
 use Rattle.page.proofs.bytes.word_at.Tie as tie
 

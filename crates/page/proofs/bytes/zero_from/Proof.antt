@@ -1,10 +1,6 @@
 -- The loop's invariant: all bytes from `at` on are 0 exactly if the sum is and those from i on are; and the sum is at
 -- most 255 for each byte passed. A byte added to the sum is one step of the scan (proofs/Reading/Scans.antt).
-use mathlib.Core.Path.{_≡_, refl, sym, _∙_}
-use native.Mathlib.Omega.{arith}
-use Prim.Native.Nat.{_*_, _-_, _≤_}
-use denote.Ref.{now}
-use lib.ListN.{length, drop}
+use Rattle.common.proofs.Ground.{_≡_, refl, sym, _∙_, _*_, _-_, _≤_, arith, length, drop, now}
 use Rattle.page.specs.Bytes.{allZero}
 use Rattle.page.proofs.Reading.Scans.{zeroWith, zero-added, zero-end}
 use Rattle.page.proofs.bytes.zero_from.Statement.{statement}

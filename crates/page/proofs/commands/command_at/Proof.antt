@@ -1,14 +1,8 @@
 -- By the cases of the code (proofs/Reading/Lengths.antt): past the page, a known code whose command ends within the
 -- page or does not, and an unknown code.
-use mathlib.Core.Path.{sym, _∙_}
-use native.Mathlib.Omega.{arith}
-use denote.Ref.{now}
-use borrow.Author.Tests.{le-leb, leb-true, leb-false}
+use Rattle.common.proofs.Ground.{sym, _∙_, _+_, _≤_, arith, length, now, needs, le-leb, leb-true, leb-false}
 use Rattle.page.specs.Reading.{lengthOf, commandAt}
-use Prim.Native.Nat.{_+_, _≤_}
-use lib.ListN.{length}
 use Rattle.page.proofs.Reading.Lengths.{command-move, command-station, command-end, command-cut, command-unknown}
-use borrow.Author.Needs.{needs}
 use Rattle.page.proofs.commands.command_at.Statement.{statement}
 use Rattle.page.proofs.commands.command_at.Tie as tie
 

@@ -1,12 +1,6 @@
 -- No command is longer than a page, and an offset of a page is far below the greatest number.
-use mathlib.Core.Path.{ap}
-use Prim.Native.Nat.{_+_}
-use native.Mathlib.Omega.{arith}
-use denote.Ref.{now}
-use lib.Dec.{leb}
-use lib.ListN.{length}
+use Rattle.common.proofs.Ground.{ap, _+_, arith, length, leb, now, needs}
 use Rattle.page.proofs.Reading.Lengths.{length-most}
-use borrow.Author.Needs.{needs}
 use Rattle.page.proofs.commands.fits.Statement.{statement}
 use Rattle.page.proofs.commands.fits.Tie as tie
 

@@ -1,6 +1,5 @@
 -- The code's table has the rows of the definition's.
-use mathlib.Core.Path.{refl}
-use borrow.Author.Needs.{needs}
+use Rattle.common.proofs.Ground.{refl, needs}
 use Rattle.page.proofs.commands.length_of.Statement.{statement}
 use Rattle.page.proofs.commands.length_of.Tie as tie
 

@@ -1,12 +1,6 @@
 -- Refusals 1 to 5, in this order. Behind each test that is passed, the check of the heading is what is left of it
 -- (`from-second` to `from-fifth`, proofs/Heading.antt), and the next test decides whether that refuses.
-use mathlib.Core.Path.{_≡_, sym, _∙_}
-use mathlib.Core.List.{List}
-use Prim.Native.Nat.{ℕ}
-use lib.Dec.{ltb}
-use denote.Ref.{now}
-use borrow.Author.Tests.{le-ltb, lt-ltb, eq-eqb, ne-eqb}
-use borrow.Author.Needs.{needs}
+use Rattle.common.proofs.Ground.{_≡_, sym, _∙_, List, ℕ, ltb, now, needs, le-ltb, lt-ltb, eq-eqb, ne-eqb}
 use Rattle.common.specs.Pick.{pick}
 use Rattle.page.specs.Image.{accepted, refused, at-station, headingCheck}
 use Rattle.page.proofs.Heading.{from-second, from-third, from-fourth, from-fifth}

@@ -1,6 +1,6 @@
 -- The part that `part_of` cuts out is the directory, its length being the number of stations.
 use Rattle.page.specs.Image.{directoryOf}
-use borrow.Author.Needs.{needs}
+use Rattle.common.proofs.Ground.{needs}
 use Rattle.page.proofs.image.directory_of.Statement.{statement}
 use Rattle.page.proofs.image.directory_of.Tie as tie
 

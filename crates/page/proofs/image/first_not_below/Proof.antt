@@ -1,11 +1,6 @@
 -- The loop's invariant: a scan from i on finds the station that a scan from 0 on finds. A byte not below the limit
 -- ends it, and one below it is passed over (proofs/Reading/Scans.antt).
-use native.Mathlib.Nat.{zero-add}
-use native.Mathlib.Omega.{arith}
-use Prim.Native.Nat.{_-_}
-use mathlib.Core.Path.{_≡_, refl, sym, _∙_}
-use lib.ListN.{length}
-use denote.Ref.{now}
+use Rattle.common.proofs.Ground.{_≡_, refl, sym, _∙_, _-_, arith, zero-add, length, now}
 use Rattle.page.proofs.Reading.Scans.{notBelowFrom, not-below-here, not-below-onward, not-below-none}
 use Rattle.page.proofs.image.first_not_below.Statement.{statement}
 use Rattle.page.proofs.image.first_not_below.Tie as tie

@@ -1,5 +1,5 @@
 -- By the cases of the first test.
-use borrow.Author.Tests.{eq-eqb, ne-eqb}
+use Rattle.common.proofs.Ground.{eq-eqb, ne-eqb}
 use Rattle.page.proofs.image.outside.Statement.{statement}
 use Rattle.page.proofs.image.outside.Tie as tie
 

@@ -1,9 +1,6 @@
 -- The part that `part_of` cuts out is the page, so that it is short; its offset stays far below what a usize holds.
-use mathlib.Core.Path.{_≡_}
-use native.Mathlib.Omega.{arith}
-use denote.Ref.{now}
+use Rattle.common.proofs.Ground.{_≡_, arith, now, needs}
 use Rattle.page.specs.Image.{pageBytes}
-use borrow.Author.Needs.{needs}
 use Rattle.page.proofs.Parts.{page-short}
 use Rattle.page.proofs.image.page_of.Statement.{statement}
 use Rattle.page.proofs.image.page_of.Tie as tie

@@ -1,7 +1,6 @@
 -- By the cases of the two tests: a station is still missing; or none is, and the bytes that follow are zero or not.
-use borrow.Author.Tests.{le-ltb, lt-ltb}
+use Rattle.common.proofs.Ground.{needs, le-ltb, lt-ltb}
 use Rattle.page.specs.Reading.{judgeEnd}
-use borrow.Author.Needs.{needs}
 use Rattle.page.proofs.reader.judge_end.Statement.{statement}
 use Rattle.page.proofs.reader.judge_end.Tie as tie
 

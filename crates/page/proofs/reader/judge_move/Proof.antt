@@ -1,9 +1,6 @@
 -- By the cases of the five tests, in the order of the definition. Behind the first four only the time is left to
 -- judge.
-use mathlib.Core.Path.{_≡_, sym, _∙_}
-use lib.Dec.{eqb}
-use borrow.Author.Tests.{le-ltb, lt-ltb, le-leb, lt-leb, eq-eqb, ne-eqb}
-use borrow.Author.Needs.{needs}
+use Rattle.common.proofs.Ground.{_≡_, sym, _∙_, eqb, needs, le-ltb, lt-ltb, le-leb, lt-leb, eq-eqb, ne-eqb}
 use Rattle.common.specs.Pick.{pick}
 use Rattle.page.specs.declared.Command.the-variants.{MoveTo, Fault}
 use Rattle.page.specs.Reading.{judgeMove}

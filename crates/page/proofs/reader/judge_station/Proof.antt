@@ -1,9 +1,6 @@
 -- By the cases of the three tests: the station is not below N; no station of the page is left; or its slot is the one
 -- that is due or not (proofs/Reading/Due.antt).
-use mathlib.Core.Path.{sym, _∙_}
-use native.Mathlib.Omega.{arith}
-use borrow.Author.Tests.{le-leb}
-use borrow.Author.Needs.{needs}
+use Rattle.common.proofs.Ground.{sym, _∙_, arith, needs, le-leb}
 use Rattle.page.specs.Reading.{judgeStation}
 use Rattle.page.proofs.Reading.Due.{none-is-due, due-passes, other-fails}
 use Rattle.page.proofs.reader.judge_station.Statement.{statement}

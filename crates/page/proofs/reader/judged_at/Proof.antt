@@ -1,11 +1,6 @@
 -- By the command that `command_at` finds: each arm judges it as the definition does, and a fault stays that fault. A
 -- missing station and the next one are told by the slot that is due (proofs/Reading/Due.antt).
-use mathlib.Core.Path.{_≡_, refl, _∙_, ap}
-use native.Mathlib.Omega.{arith}
-use Prim.Native.Nat.{ℕ}
-use denote.Ref.{now}
-use lib.ListN.{length, drop}
-use borrow.Author.Needs.{needs}
+use Rattle.common.proofs.Ground.{_≡_, refl, _∙_, ap, ℕ, arith, length, drop, now, needs}
 use Rattle.page.specs.declared.Command.{Command}
 use Rattle.page.specs.Reading.{nextOn, judgeEnd, judge, judgedAt}
 use Rattle.page.proofs.Reading.Judging.{judged-as}

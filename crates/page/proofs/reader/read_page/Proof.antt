@@ -1,13 +1,7 @@
 -- Both loops keep `Progress` (proofs/Reading/Progress.antt): what is left to read decides the verdict, and the stations
 -- named so far have their rows. Each arm of the match is one step of it. The inner loop does not know the layout that
 -- the function was lent, so that it keeps progress over any layout of before.
-use mathlib.Core.Path.{_≡_, ap, sym, _∙_}
-use mathlib.Core.List.{List}
-use native.Mathlib.Omega.{arith}
-use Prim.Native.Nat.{ℕ, _+_, _-_, _≤_}
-use denote.Ref.{now}
-use lib.ListN.{length}
-use borrow.Author.Needs.{needs}
+use Rattle.common.proofs.Ground.{_≡_, ap, sym, _∙_, List, ℕ, _+_, _-_, _≤_, arith, length, now, needs}
 use Rattle.common.proofs.Cases.{never}
 use Rattle.page.specs.declared.Command.{Command}
 use Rattle.page.specs.Reading.{nextOn, judgedAt}

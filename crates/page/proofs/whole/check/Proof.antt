@@ -1,10 +1,6 @@
 -- By what the check of the heading answers: accepted, it bounds the numbers of stations and pages, as the check of
 -- the pages requires, and that check decides; refused, the refusal is the outcome (proofs/Pages.antt).
-use mathlib.Core.Path.{_≡_, sym, ap, _∙_}
-use mathlib.Core.List.{List}
-use Prim.Native.Nat.{ℕ}
-use denote.Ref.{now}
-use borrow.Author.Needs.{needs}
+use Rattle.common.proofs.Ground.{_≡_, sym, ap, _∙_, List, ℕ, now, needs}
 use Rattle.page.specs.Image.{accepted, headingCheck, outcomeOf}
 use Rattle.page.proofs.Heading.{formed}
 use Rattle.page.proofs.Pages.{whole-pages, whole-refused}

@@ -1,13 +1,6 @@
 -- The loop's invariant: the pages from p on decide as all the pages do, and the layout keeps its length. A page read as
 -- good hands on to the next one, and the first that is bad is the outcome (proofs/Pages.antt).
-use mathlib.Core.Path.{_≡_, refl, ap, sym, _∙_, subst}
-use mathlib.Core.List.{List}
-use native.Mathlib.Omega.{arith}
-use native.Mathlib.Nat.{sub-zero}
-use Prim.Native.Nat.{ℕ, _-_}
-use denote.Ref.{now}
-use lib.ListN.{length}
-use borrow.Author.Needs.{needs}
+use Rattle.common.proofs.Ground.{_≡_, refl, ap, sym, _∙_, subst, List, ℕ, _-_, arith, sub-zero, length, now, needs}
 use Rattle.layout.specs.Places.{Placed}
 use Rattle.page.specs.declared.Verdict.{Verdict}
 use Rattle.page.specs.Image.{pageCount}

@@ -1,7 +1,5 @@
 -- The directory and the page that the reader is handed are the image's.
-use mathlib.Core.Path.{_≡_, sym, subst}
-use denote.Ref.{now}
-use borrow.Author.Needs.{needs}
+use Rattle.common.proofs.Ground.{_≡_, sym, subst, now, needs}
 use Rattle.layout.specs.Places.{Placed}
 use Rattle.page.specs.Check.{readingOf}
 use Rattle.page.proofs.whole.read_page_of.Statement.{statement}

@@ -1,7 +1,5 @@
 -- The heading's check decides: passed, 6 and 7 follow; refused by 1 to 5, that refusal is the call's.
-use mathlib.Core.Path.{sym, ap, _∙_}
-use denote.Ref.{now}
-use borrow.Author.Needs.{needs}
+use Rattle.common.proofs.Ground.{sym, ap, _∙_, now, needs}
 use Rattle.page.specs.Image.{outcomeOf}
 use Rattle.search.specs.Reply.{asked, lent}
 use Rattle.search.proofs.Checking.{heading-passes, heading-refuses}

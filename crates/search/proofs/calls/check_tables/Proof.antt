@@ -1,9 +1,5 @@
 -- 6 and 7 are tested in this order (proofs/Checking.antt).
-use mathlib.Core.Path.{_∙_}
-use mathlib.Core.Bool.{Bool, _||_}
-use native.Mathlib.Omega.{arith}
-use lib.Dec.{ltb}
-use borrow.Author.Needs.{needs}
+use Rattle.common.proofs.Ground.{_∙_, Bool, _||_, arith, ltb, needs}
 use Rattle.search.proofs.Checking.{no-source, long-tables, short-tables}
 use Rattle.search.proofs.calls.check_tables.Statement.{statement}
 use Rattle.search.proofs.calls.check_tables.Tie as tie

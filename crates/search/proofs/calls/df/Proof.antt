@@ -1,10 +1,8 @@
 -- The outcome is that of `search`, and what is promised holds of every outcome (proofs/Promising.antt).
-use native.Mathlib.Omega.{arith}
-use denote.Ref.{now}
+use Rattle.common.proofs.Ground.{arith, now, needs}
 use Rattle.page.specs.Bytes.{Bytes}
 use Rattle.search.specs.Reply.{asked, lent}
 use Rattle.search.proofs.Promising.{df-promised-of}
-use borrow.Author.Needs.{needs}
 use Rattle.search.proofs.calls.df.Statement.{statement}
 use Rattle.search.proofs.calls.df.Tie as tie
 

@@ -1,5 +1,5 @@
 -- The tests in order: the first that fails decides, and the last comparison is the last test.
-use borrow.Author.Tests.{lt-ltb, le-ltb}
+use Rattle.common.proofs.Ground.{lt-ltb, le-ltb}
 use Rattle.search.proofs.Checking.{fits-last}
 use Rattle.search.proofs.calls.fits.Statement.{statement}
 use Rattle.search.proofs.calls.fits.Tie as tie

@@ -1,18 +1,11 @@
 -- The engine's search ends as the definition's does; its cells are written into the first N entries of the tables, and
 -- what is handed back is the definition's (`handed-over`, proofs/Ending.antt).
-use mathlib.Core.Path.{_≡_, refl, sym, _∙_}
-use mathlib.Core.List.{List}
-use Prim.Native.Nat.{ℕ, _≤_}
-use native.Mathlib.Omega.{arith}
-use denote.Ref.{now}
-use lib.ListN.{length, take}
-use lib.Seq.{length-take-le}
+use Rattle.common.proofs.Ground.{_≡_, refl, sym, _∙_, List, ℕ, _≤_, arith, length, take, length-take-le, now, needs}
 use Rattle.page.specs.Bytes.{Bytes}
 use Rattle.search.specs.Reply.{Query, asked, Lent, lent}
 use Rattle.search.proofs.Checking.{Admitted, admitted, long-enough}
 use Rattle.search.proofs.Searches.{size-of, few-stations}
 use Rattle.search.proofs.Ending.{handed-over}
-use borrow.Author.Needs.{needs}
 use Rattle.search.proofs.calls.on_map.Statement.{statement}
 use Rattle.search.proofs.calls.on_map.Tie as tie
 

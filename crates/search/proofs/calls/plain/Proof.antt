@@ -1,11 +1,8 @@
 -- The outcome is that of `search`, and what is promised holds of every outcome (proofs/Promising.antt).
-use mathlib.Core.Bool.{false}
-use native.Mathlib.Omega.{arith}
-use denote.Ref.{now}
+use Rattle.common.proofs.Ground.{false, arith, now, needs}
 use Rattle.page.specs.Bytes.{Bytes}
 use Rattle.search.specs.Reply.{asked, lent}
 use Rattle.search.proofs.Promising.{promised-of}
-use borrow.Author.Needs.{needs}
 use Rattle.search.proofs.calls.plain.Statement.{statement}
 use Rattle.search.proofs.calls.plain.Tie as tie
 

@@ -1,12 +1,10 @@
 -- Refusals 1 to 7 decide: passed, the search on the map speaks; refused, that refusal is the answer, and no table is
 -- touched.
-use mathlib.Core.Path.{_≡_, ap, sym, _∙_}
-use denote.Ref.{now}
+use Rattle.common.proofs.Ground.{_≡_, ap, sym, _∙_, now, needs}
 use Rattle.net.specs.Run.{searchOf}
 use Rattle.page.specs.Image.{accepted, outcomeOf}
 use Rattle.search.specs.Reply.{Query, asked, Lent, lent, callCheck}
 use Rattle.search.proofs.Checking.{call-made, call-refused}
-use borrow.Author.Needs.{needs}
 use Rattle.search.proofs.calls.search.Statement.{statement}
 use Rattle.search.proofs.calls.search.Tie as tie
 

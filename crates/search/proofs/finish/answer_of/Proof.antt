@@ -1,6 +1,5 @@
 -- In each arm the ending is known, and the answer is its reply.
-use mathlib.Core.Path.{sym, ap}
-use borrow.Author.Needs.{needs}
+use Rattle.common.proofs.Ground.{sym, ap, needs}
 use Rattle.search.specs.Finishing.{replyTo}
 use Rattle.search.proofs.finish.answer_of.Statement.{statement}
 use Rattle.search.proofs.finish.answer_of.Tie as tie

@@ -1,5 +1,5 @@
 -- Either way the test is the definition's.
-use borrow.Author.Tests.{lt-ltb, le-ltb}
+use Rattle.common.proofs.Ground.{lt-ltb, le-ltb}
 use Rattle.search.proofs.finish.counted.Statement.{statement}
 use Rattle.search.proofs.finish.counted.Tie as tie
 

@@ -1,12 +1,6 @@
 -- Station by station the tables show the cells (`Finishing`, proofs/Finishing.antt), until all stations are written.
-use mathlib.Core.Path.{_≡_}
-use Prim.Native.Nat.{_-_, _<_}
-use native.Mathlib.Omega.{arith}
-use denote.Ref.{now}
-use lib.Dec.{ltb}
-use lib.ListN.{length}
+use Rattle.common.proofs.Ground.{_≡_, _-_, _<_, arith, length, ltb, now, needs}
 use Rattle.common.specs.Numbers.{noTime}
-use borrow.Author.Needs.{needs}
 use Rattle.search.specs.Finishing.{timeIn}
 use Rattle.search.proofs.Finishing.{one-most, Finishing, finishing-none, finishing-more}
 use Rattle.search.proofs.finish.finish.Statement.{statement}

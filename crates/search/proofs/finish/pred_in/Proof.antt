@@ -1,6 +1,5 @@
 -- The tests in order: the source's cell, a cell with a time, and the rest.
-use borrow.Author.Needs.{needs}
-use borrow.Author.Tests.{lt-ltb, le-ltb, eq-eqb, ne-eqb}
+use Rattle.common.proofs.Ground.{needs, lt-ltb, le-ltb, eq-eqb, ne-eqb}
 use Rattle.search.proofs.finish.pred_in.Statement.{statement}
 use Rattle.search.proofs.finish.pred_in.Tie as tie
 

@@ -1,5 +1,5 @@
 -- Either answer is the definition's. The kit would find both without this file; with it a wrong one is refused here.
-use borrow.Author.Needs.{needs}
+use Rattle.common.proofs.Ground.{needs}
 use Rattle.search.proofs.finish.shown.Statement.{statement}
 use Rattle.search.proofs.finish.shown.Tie as tie
 

@@ -1,11 +1,7 @@
 -- Each entry is the one that the cell shows.
-use mathlib.Core.Path.{refl, ap, _∙_}
-use denote.Ref.{now}
-use lib.Dec.{ltb}
-use lib.ListN.{set}
+use Rattle.common.proofs.Ground.{refl, ap, _∙_, set, ltb, now, needs}
 use Rattle.common.specs.Numbers.{noTime}
 use Rattle.net.specs.Net.{one}
-use borrow.Author.Needs.{needs}
 use Rattle.search.proofs.finish.write_station.Statement.{statement}
 use Rattle.search.proofs.finish.write_station.Tie as tie
 

@@ -1,10 +1,9 @@
 -- The numbers go by the place.
-use mathlib.Core.Path.{ap, sym, _∙_}
+use Rattle.common.proofs.Ground.{ap, sym, _∙_, needs}
 use Rattle.page.specs.declared.Place.{Place}
 use Rattle.page.specs.Image.{refused, placeOf}
 use Rattle.yard.specs.declared.Numbers.{Numbers}
 use Rattle.yard.specs.Numbers.{ofOutcome}
-use borrow.Author.Needs.{needs}
 use Rattle.yard.proofs.answers.of_refusal.Statement.{statement}
 use Rattle.yard.proofs.answers.of_refusal.Tie as tie
 

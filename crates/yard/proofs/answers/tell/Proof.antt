@@ -1,9 +1,6 @@
 -- A short answer stays as it is; a longer one has its first four entries set one by one (proofs/Four.antt).
-use native.Mathlib.Omega.{arith}
-use lib.ListN.{set, length-set}
-use denote.Ref.{now}
+use Rattle.common.proofs.Ground.{arith, set, length-set, now, needs}
 use Rattle.yard.proofs.Four.{put-short, put-four}
-use borrow.Author.Needs.{needs}
 use Rattle.yard.proofs.answers.tell.Statement.{statement}
 use Rattle.yard.proofs.answers.tell.Tie as tie
 

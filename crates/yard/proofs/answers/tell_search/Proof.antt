@@ -1,8 +1,6 @@
 -- The numbers told are those of the answer.
-use mathlib.Core.Path.{ap, sym, _∙_, subst}
-use denote.Ref.{now}
+use Rattle.common.proofs.Ground.{ap, sym, _∙_, subst, now, needs}
 use Rattle.yard.specs.Numbers.{toldBy, Small}
-use borrow.Author.Needs.{needs}
 use Rattle.yard.proofs.answers.tell_search.Statement.{statement}
 use Rattle.yard.proofs.answers.tell_search.Tie as tie
 
