@@ -1,13 +1,13 @@
 -- The queue of pages under a change of one leaf: where its group is the least of its leaves again, every group is. And
 -- the least of the groups is the least of all leaves.
 use Rattle.common.proofs.Ground.{_≡_, refl, ap, sym, _∙_, Bool, true, false, _≢_, List, ℕ, zero, suc, _+_, _-_, _*_}
-use Rattle.common.proofs.Ground.{_/_, _<_, _≤_, min, arith, add-one, length, getD, set, take, replicate, length-set}
-use Rattle.common.proofs.Ground.{length-take, length-replicate, getD-replicate, getD-set-same, getD-set-other}
-use Rattle.common.proofs.Ground.{getD-take, ext-getD, eqb, ltb, eqb-false, eqb-true, ltb-true, ltb-false}
+use Rattle.common.proofs.Ground.{_/_, _<_, _≤_, min, arith, add-one, getD, set, take, replicate, length-set}
+use Rattle.common.proofs.Ground.{length-replicate, getD-replicate, getD-set-same, getD-set-other}
+use Rattle.common.proofs.Ground.{eqb, ltb, eqb-false, eqb-true, ltb-true, ltb-false}
 use Rattle.common.specs.Numbers.{nobody}
 use Rattle.queue.specs.Keys.{leastIn, leastFrom}
 use Rattle.queue.specs.Queue.{Groups, Put}
-use Rattle.queue.proofs.Least.{least-none, least-more, least-onward, least-lower}
+use Rattle.queue.proofs.Least.{least-none, least-more, least-onward}
 use Rattle.queue.proofs.Least.{least-before, least-behind, least-lowered}
 
 -- The leaf of page p becomes x and its group y, which is the least of the group's leaves.
@@ -81,34 +81,6 @@ groups-least queue q (suc k) h =
 -- So the least of the 16 groups, which is what `top` looks at, is the least of all leaves.
 pub top-least : (queue : List ℕ) → Groups queue → leastFrom queue 256 16 ≡ leastIn (take 256 queue)
 top-least queue q = groups-least queue q 16 (omega arith)
-
--- All leaves after a change, as a list: one is set.
-pub put-leaves : {before after : List ℕ} (p key : ℕ) → Groups before → p < 256 → Put before p key after →
-    take 256 after ≡ set (take 256 before) p key
-put-leaves {before} {after} p key q h put =
-    let old : length (take 256 before) ≡ 256 = omega (arith, length-take 256 before, q .size) in
-    let new : length (take 256 after) ≡ 256 = omega (arith, length-take 256 after, put .groups .size) in
-    ext-getD 0 (take 256 after) (set (take 256 before) p key)
-    (new ∙ sym old ∙ sym (length-set (take 256 before) p key)) (λ i l. at i (rw new at l) old (eqb i p) refl)
-  where
-    at : (i : ℕ) → i < 256 → length (take 256 before) ≡ 256 → (same : Bool) → eqb i p ≡ same →
-        getD (take 256 after) i 0 ≡ getD (set (take 256 before) p key) i 0
-    at i l old true t =
-        let here : i ≡ p = eqb-true i p t in
-        rw (here, getD-set-same (take 256 before) p key 0 (omega arith), getD-take 256 after p 0 h) (put .same)
-    at i l old false t =
-        let n : i ≢ p = eqb-false i p t in
-        rw (getD-set-other (take 256 before) p i key 0 n, getD-take 256 after i 0 l, getD-take 256 before i 0 l)
-        (put .other i l n)
-
--- Where a leaf was lowered, the least of all leaves is the lesser of what it was and the key.
-pub lower-least : {before after : List ℕ} (p key : ℕ) → Groups before → p < 256 →
-    Put before p (min (getD before p 0) key) after → leastIn (take 256 after) ≡ min (leastIn (take 256 before)) key
-lower-least {before} p key q h put =
-    let leaf : getD (take 256 before) p 0 ≡ getD before p 0 = getD-take 256 before p 0 h in
-    let inside : p < length (take 256 before) = omega (arith, length-take 256 before, q .size) in
-    ap leastIn (put-leaves p (min (getD before p 0) key) q h put) ∙
-    (rw leaf at (least-lower (take 256 before) p key inside))
 
 -- A new array is the queue in which nobody waits.
 pub least-empty : (size lo k : ℕ) → leastFrom (replicate size nobody) lo k ≡ nobody

@@ -2,7 +2,7 @@
 -- each key, and that it is one of them.
 use Rattle.common.proofs.Ground.{_≡_, refl, _∙_, Bool, true, false, List, [], _∷_, _++_, ℕ, zero, suc, _+_, _-_, _<_}
 use Rattle.common.proofs.Ground.{_≤_, min, arith, add-one, length, getD, set, take, drop, length-take, length-drop}
-use Rattle.common.proofs.Ground.{take-suc, take-add, getD-take, getD-drop, set-split, drop-set-lt, drop-set-add}
+use Rattle.common.proofs.Ground.{take-suc, take-add, getD-take, getD-drop, drop-set-lt, drop-set-add}
 use Rattle.common.proofs.Ground.{take-set-le, take-set-lt, ltb, ltb-true, ltb-false}
 use Rattle.common.specs.Numbers.{nobody}
 use Rattle.queue.specs.Keys.{leastIn, leastFrom}
@@ -25,14 +25,6 @@ unfolding leastIn
 least-at-most [] i h = absurd (omega arith)
 least-at-most (x ∷ keys) zero h = omega arith
 least-at-most (x ∷ keys) (suc i) h = omega (arith, least-at-most keys i (omega arith))
-
--- What is at most each key and nobody's is at most the least.
-pub least-greatest : (keys : List ℕ) (x : ℕ) → x ≤ nobody → ((i : ℕ) → i < length keys → x ≤ getD keys i 0) →
-    x ≤ leastIn keys
-unfolding leastIn
-least-greatest [] x n h = n
-least-greatest (y ∷ keys) x n h =
-    omega (arith, h 0 (omega arith), least-greatest keys x n (λ i l. h (suc i) (omega arith)))
 
 -- One key becomes lesser, or stays: so does the least.
 pub least-lower : (keys : List ℕ) (i key : ℕ) → i < length keys →
@@ -64,12 +56,6 @@ least-more keys lo k h =
 pub least-onward : (keys : List ℕ) (n m : ℕ) →
     leastIn (take (n + m) keys) ≡ min (leastIn (take n keys)) (leastFrom keys n m)
 least-onward keys n m = rw (take-add n m keys) (least-append (take n keys) (take m (drop n keys)))
-
--- Another key at place i.
-pub least-set : (keys : List ℕ) (i key : ℕ) → i < length keys →
-    leastIn (set keys i key) ≡ min (leastIn (take i keys)) (min key (leastIn (drop (suc i) keys)))
-unfolding leastIn
-least-set keys i key h = rw (set-split keys i key h) (least-append (take i keys) (key ∷ drop (suc i) keys))
 
 -- A key before or behind some keys does not change their least.
 pub least-before : (keys : List ℕ) (i x lo k : ℕ) → i < lo → leastFrom (set keys i x) lo k ≡ leastFrom keys lo k
