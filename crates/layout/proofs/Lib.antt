@@ -5,5 +5,4 @@ pub mod Slots
 pub mod Due
 pub mod Rows
 -- How `places` is filled by counting.
-pub mod Counts
 pub mod Filling
