@@ -1,36 +1,33 @@
 -- What a write to `layout` does to the rows: one write changes one entry, so a row stays that does not have it and
 -- whose begin and end are elsewhere; and a move that is written behind a row makes the row longer by one.
 use Rattle.common.proofs.Ground.{_≡_, ap, _∙_, dite, List, [], _∷_, _++_, ℕ, suc, _+_, _-_, _*_, _≤_, _<_, arith}
-use Rattle.common.proofs.Ground.{decLt, length, getD, take, drop, set, length-set, length-drop, getD-set-same}
+use Rattle.common.proofs.Ground.{decLt, length, take, drop, set, length-set, length-drop, getD-set-same}
 use Rattle.common.proofs.Ground.{getD-set-other, take-set-le, drop-set-lt, drop-set-add, take-suc-set}
-use Rattle.layout.specs.Rows.{beginOf, endOf, rowOf, Laid}
+use Rattle.layout.specs.Rows.{beginOf, endOf, Laid}
 
 module _ (layout : List ℕ) (i x : ℕ) where
+  drop-set : (from : ℕ) → from ≤ i → drop from (set layout i x) ≡ set (drop from layout) (i - from) x
+  drop-set from l =
+      let e : i ≡ from + (i - from) = omega arith in
+      ap (λ (j : ℕ). drop from (set layout j x)) e ∙ drop-set-add from layout (i - from) x
+
   -- what stands between two indexes stays, if the write is outside
-  pub between-kept : (from to : ℕ) → (from ≤ i → to ≤ i)
+  between-kept : (from to : ℕ) → (from ≤ i → to ≤ i)
       → take (to - from) (drop from (set layout i x)) ≡ take (to - from) (drop from layout)
   between-kept from to outside =
       dite (decLt i from)
-      (λ l. rw (drop-set-lt from layout i x))
+      (λ l. rw drop-set-lt)
       (λ n.
-      let l : from ≤ i = omega arith in
-      let k : to - from ≤ i - from = omega (arith, outside l) in
-      let e : i ≡ from + (i - from) = omega arith in
-      let there = drop-set-add from layout (i - from) x in
-      ap (λ (j : ℕ). take (to - from) (drop from (set layout j x))) e ∙
-      rw there (take-set-le (to - from) (drop from layout) (i - from) x k))
+      let k : to - from ≤ i - from = omega (arith, outside (omega arith)) in
+      rw (drop-set from (omega arith), take-set-le))
 
   -- a write behind what stands between two indexes makes it longer by one
   pub between-more : (from : ℕ) → from ≤ i → i < length layout
       → take (i + 1 - from) (drop from (set layout i x)) ≡ take (i - from) (drop from layout) ++ (x ∷ [])
   between-more from l h =
-      let e : i ≡ from + (i - from) = omega arith in
       let count : i + 1 - from ≡ suc (i - from) = omega arith in
-      let there = drop-set-add from layout (i - from) x in
       let room : i - from < length (drop from layout) = omega (arith, length-drop from layout) in
-      rw count
-      (ap (λ (j : ℕ). take (suc (i - from)) (drop from (set layout j x))) e ∙
-      rw there (take-suc-set (drop from layout) (i - from) x room))
+      rw (count, drop-set from l, take-suc-set)
 
   module _ (v : ℕ) where
     pub begin-kept : (v ≡ i → ⊥) → beginOf (set layout i x) v ≡ beginOf layout v
@@ -40,18 +37,15 @@ module _ (layout : List ℕ) (i x : ℕ) where
     end-kept other = getD-set-other layout i (2048 + v) x 0 other
 
     -- a write that is neither a station's begin nor its end nor in its row
-    pub row-kept : (v ≡ i → ⊥) → (2048 + v ≡ i → ⊥) → (beginOf layout v ≤ i → endOf layout v ≤ i)
-        → rowOf (set layout i x) v ≡ rowOf layout v
-    row-kept other-begin other-end outside =
-        rw (begin-kept other-begin, end-kept other-end) (between-kept (beginOf layout v) (endOf layout v) outside)
-
-    pub laid-kept : (p : ℕ) (row : List ℕ) → Laid layout p v row → (v ≡ i → ⊥) → (2048 + v ≡ i → ⊥)
+    laid-kept : (p : ℕ) (row : List ℕ) → Laid layout p v row → (v ≡ i → ⊥) → (2048 + v ≡ i → ⊥)
         → (beginOf layout v ≤ i → endOf layout v ≤ i) → Laid (set layout i x) p v row
     laid-kept p row laid other-begin other-end outside = record {
       begins = rw (begin-kept other-begin) (laid .begins);
       ordered = rw (begin-kept other-begin, end-kept other-end) (laid .ordered);
       ends = rw (end-kept other-end) (laid .ends);
-      entries = row-kept other-begin other-end outside ∙ laid .entries;
+      entries =
+          rw (begin-kept other-begin, end-kept other-end)
+          (between-kept (beginOf layout v) (endOf layout v) outside ∙ laid .entries);
     }
 
 -- The row of station v stays at a write of the kinds that the page reader makes.
@@ -60,8 +54,6 @@ module _ (layout : List ℕ) (p v x : ℕ) (row : List ℕ) (laid : Laid layout 
   pub laid-other-page : (q i : ℕ) → (p ≡ q → ⊥) → 4096 + 51 * q ≤ i → i < 4096 + 51 * q + 51
       → Laid (set layout i x) p v row
   laid-other-page q i other low high =
-      let begins = laid .begins in
-      let ends = laid .ends in
       laid-kept layout i x v p row laid (λ e. omega arith) (λ e. omega arith) (λ l. omega arith)
 
   -- a write behind the row
@@ -72,12 +64,10 @@ module _ (layout : List ℕ) (p v x : ℕ) (row : List ℕ) (laid : Laid layout 
   -- the begin or the end of another station
   pub laid-other-begin : (w : ℕ) → w < 2048 → (v ≡ w → ⊥) → Laid (set layout w x) p v row
   laid-other-begin w h other =
-      let begins = laid .begins in
       laid-kept layout w x v p row laid other (λ e. omega arith) (λ l. absurd (omega arith))
 
   pub laid-other-end : (w : ℕ) → w < 2048 → (v ≡ w → ⊥) → Laid (set layout (2048 + w) x) p v row
   laid-other-end w h other =
-      let begins = laid .begins in
       laid-kept layout (2048 + w) x v p row laid
       (λ e. omega arith)
       (λ e. other (omega arith))
@@ -89,10 +79,8 @@ module _ (p v from to : ℕ) (row : List ℕ) (station : v < 2048) (low : 4096 +
   pub laid-end : (layout : List ℕ) → length layout ≡ 17152 → beginOf layout v ≡ from
       → take (to - from) (drop from layout) ≡ row → Laid (set layout (2048 + v) to) p v row
   laid-end layout size written stands =
-      let begin : getD (set layout (2048 + v) to) v 0 ≡ from =
-      getD-set-other layout (2048 + v) v to 0 (λ e. omega arith) ∙ written in
-      let end : getD (set layout (2048 + v) to) (2048 + v) 0 ≡ to =
-      getD-set-same layout (2048 + v) to 0 (omega arith) in
+      let begin = begin-kept layout (2048 + v) to v (λ e. omega arith) ∙ written in
+      let end = getD-set-same layout (2048 + v) to 0 (omega arith) in
       record {
         begins = rw begin low;
         ordered = rw (begin, end) ordered;
