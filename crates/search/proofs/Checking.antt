@@ -1,5 +1,4 @@
--- Refusals 1 to 7: what a call that they do not refuse has, that they name no page, and that the code's tests are the
--- definition's.
+-- Refusals 1 to 7: what a call that they do not refuse has, and that they name no page.
 use Rattle.common.proofs.Ground.{_≡_, refl, sym, _∙_, Bool, true, false, not, _||_, true≢false, ⊎-elim, List, ℕ, _+_}
 use Rattle.common.proofs.Ground.{_*_, _≤_, _<_, length, ltb, leb, eqb, lt-ltb, le-ltb, le-leb, lt-leb, ltb-false}
 use Rattle.common.proofs.Ground.{leb-false}
@@ -10,41 +9,6 @@ use Rattle.page.specs.Image.{stationCount, pageCount, directoryOf, firstNotBelo
 use Rattle.page.specs.Check.{afterHeading}
 use Rattle.search.specs.Reply.{Query, NetSearch, Lent, Handed, reply, handed, tooShort, callCheck, onMap}
 use Rattle.search.specs.Reply.{sixOrSeven, searched}
-
--- The code's tests.
-pub fits-last : (n list : ℕ) → leb n list ≡ not (ltb list n)
-fits-last n list =
-    ⊎-elim (λ le. rw (le-leb n list le, le-ltb list n le)) (λ lt. rw (lt-leb n list lt, lt-ltb list n lt))
-    (le-or-lt n list)
-
-module _ (n source : ℕ) (short : Bool) where
-  pub no-source : n ≤ source → refused 6 nowhere ≡ sixOrSeven n source short
-  no-source h = rw (le-leb n source h)
-
-  pub long-tables : source < n → (r : Bool) → r ≡ not short → r ≡ true → accepted ≡ sixOrSeven n source short
-  long-tables h r e q = rw (lt-leb n source h) (go short (sym e ∙ q))
-    where
-      go : (b : Bool) → not b ≡ true → accepted ≡ pick b (refused 7 nowhere) accepted
-      go true k = absurd (true≢false (sym k))
-      go false k = refl
-
-  pub short-tables : source < n → (r : Bool) → r ≡ not short → r ≡ false → refused 7 nowhere ≡ sixOrSeven n source short
-  short-tables h r e q = rw (lt-leb n source h) (go short (sym e ∙ q))
-    where
-      go : (b : Bool) → not b ≡ false → refused 7 nowhere ≡ pick b (refused 7 nowhere) accepted
-      go true k = refl
-      go false k = absurd (true≢false k)
-
-module _ (q : Query) (t : Lent) where
-  pub heading-passes : (o : Outcome) (n : ℕ) → headingCheck (q .image) ≡ accepted → n ≡ stationCount (q .image)
-      → o ≡ sixOrSeven n (q .source) (tooShort n t) → o ≡ callCheck q t
-  unfolding callCheck
-  heading-passes o n e count is = is ∙ rw (e, count)
-
-  pub heading-refuses : (o : Outcome) (number : ℕ) (place : Place) → o ≡ headingCheck (q .image)
-      → o ≡ refused number place → refused number place ≡ callCheck q t
-  unfolding callCheck
-  heading-refuses o number place e is = rw (← e, is)
 
 -- An outcome that names no page.
 abbrev pub NamesNoPage : Outcome → Type 0
@@ -127,14 +91,3 @@ module _ (q : Query) (t : Lent) where
         ltb-false (length (t .marks)) n (d .0),
         ltb-false (length (t .list)) n (d .1),
       )
-
--- What is handed back, as the code decides it.
-module _ (search : NetSearch) (q : Query) (t : Lent) where
-  pub call-made : (h : Handed) → callCheck q t ≡ accepted → h ≡ onMap search q t → h ≡ searched search q t
-  unfolding searched
-  call-made h e is = is ∙ rw e
-
-  pub call-refused : (o : Outcome) (number : ℕ) (place : Place) → o ≡ callCheck q t → o ≡ refused number place
-      → handed (reply (refused number place) 0 0) t ≡ searched search q t
-  unfolding searched
-  call-refused o number place e is = rw (← e, is)

@@ -24,7 +24,7 @@ use page::image::station_count;
 
 // Whether each table has an entry for each of n stations: 7.
 fn fits(n: usize, times: usize, preds: usize, marks: usize, list: usize) -> bool
-    ensures value { λ r. ⌜ r ≡ not (ltb times n || (ltb preds n || (ltb marks n || ltb list n))) ⌝ }
+    ensures value { λ r. ⌜ not r ≡ ltb times n || (ltb preds n || (ltb marks n || ltb list n)) ⌝ }
 {
     if times < n {
         return false;

@@ -1,33 +1,18 @@
--- 6 and 7 are tested in this order (proofs/Checking.antt).
-use Rattle.common.proofs.Ground.{_∙_, Bool, _||_, arith, ltb, needs}
-use Rattle.search.proofs.Checking.{no-source, long-tables, short-tables}
+-- 6 and 7 are tested in this order, as the definition has them.
+use Rattle.common.proofs.Ground.{_∙_, needs, le-leb, lt-leb}
 use Rattle.search.proofs.calls.check_tables.Statement.{statement}
 use Rattle.search.proofs.calls.check_tables.Tie as tie
 
-abbrev short : tie.Start → Bool
-short entry =
-    let a = entry .args in
-    ltb (a .times) (a .n) || (ltb (a .preds) (a .n) || (ltb (a .marks) (a .n) || ltb (a .list) (a .n)))
-
 returns : tie.Need-returns
-returns c =
-    let start = c .before .before in
-    c .refuse .ensures ∙ no-source (start .args .n) (start .args .source) (short start) (omega (arith, c .before .if1))
+returns c = c .refuse .ensures ∙ rw (le-leb _ _ (c .before .if1 .taken))
 
 returns-2 : tie.Need-returns-2
-returns-2 c =
-    let tested = c .before in
-    let start = tested .before .before in
-    long-tables (start .args .n) (start .args .source) (short start) (omega (arith, tested .before .if1)) _
-    (tested .fits2 .ensures) (c .if2 .taken)
+returns-2 c = rw (lt-leb _ _ (c .before .before .if1 .left), ← (c .before .fits2 .ensures), c .if2 .taken)
 
 returns-3 : tie.Need-returns-3
 returns-3 c =
     let tested = c .before .before in
-    let start = tested .before .before in
-    c .refuse2 .ensures ∙
-    short-tables (start .args .n) (start .args .source) (short start) (omega (arith, tested .before .if1)) _
-    (tested .fits2 .ensures) (c .before .if2 .left)
+    c .refuse2 .ensures ∙ rw (lt-leb _ _ (tested .before .if1 .left), ← (tested .fits2 .ensures), c .before .if2 .left)
 
 pub check-tables-spec : {M : Type 1} → statement M
 check-tables-spec =

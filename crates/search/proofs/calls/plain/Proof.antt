@@ -1,7 +1,5 @@
 -- The outcome is that of `search`, and what is promised holds of every outcome (proofs/Promising.antt).
-use Rattle.common.proofs.Ground.{false, arith, now, needs}
-use Rattle.page.specs.Bytes.{Bytes}
-use Rattle.search.specs.Reply.{asked, lent}
+use Rattle.common.proofs.Ground.{false, arith, needs}
 use Rattle.search.proofs.Promising.{promised-of}
 use Rattle.search.proofs.calls.plain.Statement.{statement}
 use Rattle.search.proofs.calls.plain.Tie as tie
@@ -10,12 +8,15 @@ returns : tie.Need-returns
 returns c =
     let searched = c .before .before .before .before .before .before .before .before in
     let known = searched .before .before .before .before .before .before .before .before .before in
-    let a = known .before .args in
-    let bytes : Bytes (now (a .image)) = λ i. omega (arith, known .shared-slice-known .given i) in
-    promised-of (asked (now (a .image)) (a .source))
-    (lent (now (a .times)) (now (a .preds)) (now (a .marks)) (now (a .list))) bytes false _ (searched .search .ensures)
+    promised-of _ _ (λ i. omega (arith, known .shared-slice-known .given i)) false _ (searched .search .ensures)
 
 pub plain-spec : {M : Type 1} → statement M
 plain-spec =
     tie.close
-    (tie.spec (λ c κs. search needs) (λ c. search needs) (λ c. search needs) (λ c. search needs) (λ c. search needs) returns)
+    (tie.spec
+    (λ c κs. search needs)
+    (λ c. search needs)
+    (λ c. search needs)
+    (λ c. search needs)
+    (λ c. search needs)
+    returns)
