@@ -1,74 +1,70 @@
 -- What a search that has ended hands back, with its cells written into the windows of the lent tables, is what the
 -- definition says.
-use Rattle.common.proofs.Ground.{_≡_, refl, ap, sym, _∙_, subst, Bool, true, false, List, _++_, ℕ, length, drop}
-use Rattle.common.proofs.Ground.{replicate}
+use Rattle.common.proofs.Ground.{_≡_, refl, ap, sym, _∙_, Bool, List, _++_, ℕ, arith, length, take, drop, replicate}
+use Rattle.common.proofs.Ground.{length-take-le}
 use Rattle.common.specs.Numbers.{noTime, noPred}
-use Rattle.common.specs.Window.{placed}
 use Rattle.common.proofs.Windows.{lent-front}
-use Rattle.net.specs.Search.{State, reached}
+use Rattle.net.specs.Net.{Frame}
+use Rattle.net.specs.Search.{State}
 use Rattle.net.specs.Run.{searchOf}
 use Rattle.page.specs.Bytes.{Bytes}
-use Rattle.page.specs.Image.{accepted, refused, on-page}
+use Rattle.page.specs.Image.{stationCount}
 use Rattle.engine.specs.declared.Ended.{Ended}
 use Rattle.engine.specs.declared.Ended.the-variants.{Over, BadPage}
-use Rattle.engine.specs.Ending.{EndedAs}
-use Rattle.search.specs.Reply.{Query, frameOf, pagesOf, Lent, lent, Reply, reply, Handed, handed}
-use Rattle.search.specs.Reply.{ended, onMap}
-use Rattle.search.specs.Finishing.{isOver, replyTo, Finished}
-use Rattle.search.proofs.Checking.{Admitted}
-use Rattle.search.proofs.Searches.{found, sound-of, least-of}
-use Rattle.search.proofs.Finishing.{marks-cleared, times-cleared, preds-cleared, times-written, preds-written}
-use Rattle.search.proofs.Finishing.{reached-written}
+use Rattle.engine.specs.Ending.{Listed, EndedAs}
+use Rattle.search.specs.Reply.{Query, frameOf, pagesOf, Lent, lent, Reply, Handed, handed, written, ended, onMap}
+use Rattle.search.specs.Finishing.{Shows, isOver, replyTo, Finished}
+use Rattle.search.proofs.Checking.{Admitted, long-enough}
+use Rattle.search.proofs.Searches.{found, size-of, sound-of, least-of}
+use Rattle.search.proofs.Finishing.{shows-one, all-written}
 
-same-handed : {r r′ : Reply} {a b d l a′ b′ d′ l′ : List ℕ} → r ≡ r′ → a ≡ a′ → b ≡ b′ → d ≡ d′ → l ≡ l′
-    → handed r (lent a b d l) ≡ handed r′ (lent a′ b′ d′ l′)
-same-handed p q s u v = cc
+module _ (df : Bool) (q : Query) (t : Lent) (bytes : Bytes (q .image)) (a : Admitted q t)
+    (times preds marks list cells : List ℕ) (r : ℕ) where
+  abbrev F : Frame
+  F = frameOf q
 
--- a front that was lent, of which it is known what it holds
-front : (table entries holds : List ℕ) (n : ℕ) → length entries ≡ n → entries ≡ holds
-    → entries ++ drop n table ≡ placed table 0 holds
-front table entries holds n size is = lent-front table entries n size ∙ ap (placed table 0) is
-
-module _ (df : Bool) (q : Query) (t : Lent) (bytes : Bytes (q .image)) (a : Admitted q t) (n : ℕ)
-    (size : n ≡ (frameOf q) .size) (times preds marks list cells : List ℕ) (r : ℕ) (st : length times ≡ n)
-    (sp : length preds ≡ n) (sm : length marks ≡ n) where
   abbrev s : State
   s = found q df
 
-  abbrev back : Reply → Handed
-  back reply =
-      handed reply
-      (lent (times ++ drop n (t .times)) (preds ++ drop n (t .preds)) (marks ++ drop n (t .marks)) list)
+  -- what the code hands back, where windows of n entries were lent
+  abbrev back : ℕ → Reply → Handed
+  back n reply =
+      handed reply (lent (times ++ drop n (t .times)) (preds ++ drop n (t .preds)) (marks ++ drop n (t .marks)) list)
 
-  as-ended : (e : Ended) → EndedAs (frameOf q) (q .source) s cells (t .list) list e
-      → Finished (isOver e) cells n times preds marks r → back (replyTo e r) ≡ onMap (searchOf df) q t
-  unfolding onMap
-  as-ended (Over count) (going, (counted, listed), hold) f =
-      let least = least-of q t a bytes df going in
-      let ok = sound-of q t a bytes in
-      let all = subst (λ k. Finished true cells k times preds marks r) size f in
-      same-handed
-      (ap (reply accepted count) (reached-written (frameOf q) (pagesOf q) (q .source) ok refl s least hold all) ∙
-      ap (λ k. reply accepted k (reached (frameOf q) s)) (sym counted))
-      (front (t .times) times (s .times) n st
-      (times-written (frameOf q) (pagesOf q) (q .source) ok refl s least hold all (st ∙ size)))
-      (front (t .preds) preds (s .preds) n sp
-      (preds-written (frameOf q) (pagesOf q) (q .source) ok refl s least hold all (sp ∙ size)))
-      (front (t .marks) marks (replicate ((frameOf q) .size) 0) n sm (marks-cleared all (sm ∙ size)))
-      (listed ∙ lent-front (t .list) (s .pages) count counted) ∙ sym (ap (λ h. ended h (frameOf q) s t) going)
-  as-ended (BadPage number p offset count) (halted, (counted, listed)) f =
-      let all = subst (λ k. Finished false cells k times preds marks r) size f in
-      same-handed
-      (ap (λ k. reply (refused number (on-page p offset)) k 0) (sym counted))
-      (front (t .times) times (replicate ((frameOf q) .size) noTime) n st (times-cleared all (st ∙ size)))
-      (front (t .preds) preds (replicate ((frameOf q) .size) noPred) n sp (preds-cleared all (sp ∙ size)))
-      (front (t .marks) marks (replicate ((frameOf q) .size) 0) n sm (marks-cleared all (sm ∙ size)))
-      (listed ∙ lent-front (t .list) (s .pages) count counted) ∙ sym (ap (λ h. ended h (frameOf q) s t) halted)
+  module _ (st : length times ≡ F .size) (sp : length preds ≡ F .size) (sm : length marks ≡ F .size) where
+    back-as : {answer reply : Reply} {ts ps : List ℕ} {count : ℕ} → answer ≡ reply → times ≡ ts → preds ≡ ps
+        → Shows (λ v. 0) (F .size) marks → Listed s (t .list) list count
+        → back (F .size) answer ≡ handed reply (written F ts ps (s .pages) t)
+    back-as {count = count} er et ep cleared (counted, listed) = cc (
+      lent-front (t .times) times (F .size) st,
+      lent-front (t .preds) preds (F .size) sp,
+      lent-front (t .marks) marks (F .size) sm,
+      lent-front (t .list) (s .pages) count counted,
+      shows-one 0 marks (F .size) sm cleared,
+    )
 
-  -- as the code has it: its answer, and whether the search was over
-  pub handed-over : (e : Ended) (over : Bool) (k : ℕ) (answer : Reply)
-      → EndedAs (frameOf q) (q .source) s cells (t .list) list e → over ≡ isOver e → k ≡ n
-      → Finished over cells k times preds marks r → answer ≡ replyTo e r → back answer ≡ onMap (searchOf df) q t
-  handed-over e over k answer ends is all f told =
-      let written = subst (λ i. Finished over cells i times preds marks r) all f in
-      ap back told ∙ as-ended e ends (subst (λ b. Finished b cells n times preds marks r) is written)
+    as-ended : (e : Ended) → EndedAs F (q .source) s cells (t .list) list e
+        → Finished (isOver e) cells (F .size) times preds marks r
+        → back (F .size) (replyTo e r) ≡ onMap (searchOf df) q t
+    unfolding onMap
+    as-ended (Over count) (halted, listed, hold) f =
+        let least = least-of q t a bytes df halted in
+        let all = all-written F (pagesOf q) (q .source) (sound-of q t a bytes) refl s least hold f st sp in
+        back-as (cc (all .2, listed .0)) (all .0) (all .1) (f .marks) listed ∙ sym (ap (λ h. ended h F s t) halted)
+    as-ended (BadPage number p offset count) (halted, listed) f =
+        back-as (cc (listed .0)) (shows-one noTime times (F .size) st (f .times))
+        (shows-one noPred preds (F .size) sp (f .preds)) (f .marks) listed ∙ sym (ap (λ h. ended h F s t) halted)
+
+  -- as the code has it: its answer, whether the search was over, and the windows by their own length
+  pub handed-over : (n : ℕ) → n ≡ stationCount (q .image) → length times ≡ length (take n (t .times))
+      → length preds ≡ length (take n (t .preds)) → length marks ≡ length (take n (t .marks))
+      → (e : Ended) (over : Bool) (answer : Reply) → EndedAs F (q .source) s cells (t .list) list e → over ≡ isOver e
+      → Finished over cells (length (take n (t .times))) times preds marks r → answer ≡ replyTo e r
+      → back n answer ≡ onMap (searchOf df) q t
+  handed-over n count st sp sm e over answer ends is f told =
+      let size : n ≡ F .size = count ∙ sym (size-of q t a) in
+      let long = long-enough q t a in
+      let lt = length-take-le n (t .times) (omega (arith, long)) ∙ size in
+      let lp = length-take-le n (t .preds) (omega (arith, long)) ∙ size in
+      let lm = length-take-le n (t .marks) (omega (arith, long)) ∙ size in
+      rw (told, size) (as-ended (st ∙ lt) (sp ∙ lp) (sm ∙ lm) e ends (rw (is, lt) at f))
