@@ -1,6 +1,6 @@
 -- Refusals 1 to 7: what a call that they do not refuse has, and that they name no page.
 use Rattle.common.proofs.Ground.{_≡_, refl, sym, _∙_, Bool, true, false, not, _||_, true≢false, ⊎-elim, List, ℕ, _+_}
-use Rattle.common.proofs.Ground.{_*_, _≤_, _<_, length, ltb, leb, eqb, lt-ltb, le-ltb, le-leb, lt-leb, ltb-false}
+use Rattle.common.proofs.Ground.{_*_, _≤_, _<_, arith, length, ltb, leb, eqb, lt-ltb, le-ltb, le-leb, lt-leb, ltb-false}
 use Rattle.common.proofs.Ground.{leb-false}
 use Rattle.common.specs.Pick.{pick}
 use Rattle.common.proofs.Cases.{le-or-lt, never}
@@ -45,49 +45,42 @@ module _ (q : Query) (t : Lent) where
   abbrev n : ℕ
   n = stationCount (q .image)
 
-  by-tables : headingCheck (q .image) ≡ accepted → Decided q t (sixOrSeven n (q .source) (tooShort n t))
-  by-tables e = by-tests (leb n (q .source)) (tooShort n t) refl refl
-    where
-      by-tests : (a b : Bool) → leb n (q .source) ≡ a → tooShort n t ≡ b
-          → Decided q t (pick a (refused 6 nowhere) (pick b (refused 7 nowhere) accepted))
-      by-tests true b x y = turned-down 6 nowhere tt
-      by-tests false true x y = turned-down 7 nowhere tt
-      by-tests false false x y = passed (record { heading = e; inside = leb-false n (q .source) x; long = y })
-
   pub decided : Decided q t (callCheck q t)
   unfolding callCheck
-  decided = by-heading (headingCheck (q .image)) refl (heading-names-no-page (q .image))
+  decided =
+      by-tests (headingCheck (q .image)) (leb n (q .source)) (tooShort n t) refl refl refl
+      (heading-names-no-page (q .image))
     where
-      by-heading : (o : Outcome) → headingCheck (q .image) ≡ o → NamesNoPage o
-          → Decided q t (afterHeading o (sixOrSeven n (q .source) (tooShort n t)))
-      by-heading (refused number place) e k = turned-down number place k
-      by-heading accepted e k = by-tables e
+      by-tests : (o : Outcome) (a b : Bool) → headingCheck (q .image) ≡ o → leb n (q .source) ≡ a → tooShort n t ≡ b
+          → NamesNoPage o
+          → Decided q t (afterHeading o (pick a (refused 6 nowhere) (pick b (refused 7 nowhere) accepted)))
+      by-tests (refused number place) a b e x y k = turned-down number place k
+      by-tests accepted true b e x y k = turned-down 6 nowhere tt
+      by-tests accepted false true e x y k = turned-down 7 nowhere tt
+      by-tests accepted false false e x y k =
+          passed (record { heading = e; inside = leb-false n (q .source) x; long = y })
 
   pub admitted : callCheck q t ≡ accepted → Admitted q t
-  admitted e = go (callCheck q t) e decided
+  admitted e = go (rw e at decided)
     where
-      go : (o : Outcome) → o ≡ accepted → Decided q t o → Admitted q t
-      go o is (turned-down number place k) = never (cc)
-      go o is (passed a) = a
+      go : Decided q t accepted → Admitted q t
+      go (passed a) = a
 
   pub passes : Admitted q t → callCheck q t ≡ accepted
   unfolding callCheck
   passes a = rw (a .heading, lt-leb n (q .source) (a .inside), a .long)
 
-  or-none : (a b : Bool) → a || b ≡ false → (a ≡ false) × (b ≡ false)
-  or-none false b e = (refl, e)
-  or-none true b e = absurd (true≢false e)
+  none-of-four : (a b d e : Bool) → a || (b || (d || e)) ≡ false
+      → (a ≡ false) × (b ≡ false) × (d ≡ false) × (e ≡ false)
+  none-of-four false false false e k = (refl, refl, refl, k)
+  none-of-four true b d e k = never (cc)
+  none-of-four false true d e k = never (cc)
+  none-of-four false false true e k = never (cc)
 
   -- each table has an entry for each station
   pub long-enough : Admitted q t
       → (n ≤ length (t .times)) × (n ≤ length (t .preds)) × (n ≤ length (t .marks)) × (n ≤ length (t .list))
-  long-enough k =
+  long-enough a =
       let short : List ℕ → Bool = λ l. ltb (length l) n in
-      let a = or-none (short (t .times)) (short (t .preds) || (short (t .marks) || short (t .list))) (k .long) in
-      let b = or-none (short (t .preds)) (short (t .marks) || short (t .list)) (a .1) in
-      let d = or-none (short (t .marks)) (short (t .list)) (b .1) in (
-        ltb-false (length (t .times)) n (a .0),
-        ltb-false (length (t .preds)) n (b .0),
-        ltb-false (length (t .marks)) n (d .0),
-        ltb-false (length (t .list)) n (d .1),
-      )
+      let none = none-of-four (short (t .times)) (short (t .preds)) (short (t .marks)) (short (t .list)) (a .long) in
+      omega (arith, ltb-false, none)
