@@ -1,14 +1,13 @@
 -- Refusals 1 to 7: what a call that they do not refuse has, and that they name no page.
-use Rattle.common.proofs.Ground.{_≡_, refl, sym, _∙_, Bool, true, false, not, _||_, true≢false, ⊎-elim, List, ℕ, _+_}
-use Rattle.common.proofs.Ground.{_*_, _≤_, _<_, arith, length, ltb, leb, eqb, lt-ltb, le-ltb, le-leb, lt-leb, ltb-false}
+use Rattle.common.proofs.Ground.{_≡_, refl, Bool, true, false, not, _||_, List, ℕ, _+_}
+use Rattle.common.proofs.Ground.{_*_, _≤_, _<_, arith, length, ltb, leb, eqb, lt-leb, ltb-false}
 use Rattle.common.proofs.Ground.{leb-false}
 use Rattle.common.specs.Pick.{pick}
-use Rattle.common.proofs.Cases.{le-or-lt, never}
+use Rattle.common.proofs.Cases.{never}
 use Rattle.page.specs.Image.{Outcome, accepted, refused, Place, nowhere, at-station, on-page}
 use Rattle.page.specs.Image.{stationCount, pageCount, directoryOf, firstNotBelow, headingCheck}
 use Rattle.page.specs.Check.{afterHeading}
-use Rattle.search.specs.Reply.{Query, NetSearch, Lent, Handed, reply, handed, tooShort, callCheck, onMap}
-use Rattle.search.specs.Reply.{sixOrSeven, searched}
+use Rattle.search.specs.Reply.{Query, Lent, tooShort, callCheck}
 
 -- An outcome that names no page.
 abbrev pub NamesNoPage : Outcome → Type 0

@@ -1,6 +1,6 @@
 -- What a search that has ended hands back, with its cells written into the windows of the lent tables, is what the
 -- definition says.
-use Rattle.common.proofs.Ground.{_≡_, refl, ap, sym, _∙_, Bool, List, _++_, ℕ, arith, length, take, drop, replicate}
+use Rattle.common.proofs.Ground.{_≡_, refl, ap, sym, _∙_, Bool, List, _++_, ℕ, arith, length, take, drop}
 use Rattle.common.proofs.Ground.{length-take-le}
 use Rattle.common.specs.Numbers.{noTime, noPred}
 use Rattle.common.proofs.Windows.{lent-front}

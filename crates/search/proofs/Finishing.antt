@@ -1,6 +1,6 @@
 -- The end of a search: station by station the cells' times and predecessors are written; they are those of the search
 -- by the letter, or all none where a bad page ended it.
-use Rattle.common.proofs.Ground.{_≡_, refl, ap, sym, _∙_, Bool, _≢_, ⊎-elim, dite, List, ℕ, zero, suc, _+_, _/_, _≤_}
+use Rattle.common.proofs.Ground.{_≡_, refl, sym, _∙_, Bool, _≢_, ⊎-elim, dite, List, ℕ, zero, suc, _+_, _/_, _≤_}
 use Rattle.common.proofs.Ground.{_<_, arith, ℕ-discrete, add-one, length, getD, set, replicate, length-set}
 use Rattle.common.proofs.Ground.{length-replicate, getD-replicate, getD-set-same, getD-set-other, drop-cons, ext-getD}
 use Rattle.common.proofs.Ground.{true, ltb, lt-ltb, ne-eqb}

@@ -1,7 +1,7 @@
 -- What a search promises (specs/Promises.antt) holds of what the definition hands back: a call is refused before any
 -- page, or its map is a sound net and the laws of the net speak of it. The tables' first N entries are those of the
 -- net's search, and the list's first entries its page list.
-use Rattle.common.proofs.Ground.{_≡_, refl, ap, sym, _∙_, subst, Bool, true, false, List, [], _∷_, _++_, List·Memᴰ, ℕ}
+use Rattle.common.proofs.Ground.{_≡_, refl, ap, sym, _∙_, Bool, true, false, List, List·Memᴰ, ℕ}
 use Rattle.common.proofs.Ground.{arith, length, take}
 use Rattle.common.specs.Window.{placed}
 use Rattle.common.proofs.Cases.{never}
@@ -10,7 +10,6 @@ use Rattle.net.specs.Net.{Frame}
 use Rattle.net.specs.Search as net
 use Rattle.net.specs.Search.{State, Halt, going, reached, plainSearch, dfSearch}
 use Rattle.net.specs.Run.{searchOf}
-use Rattle.net.specs.Demands.{RefusedPage}
 use Rattle.net.proofs.Laws.{same-halt, same-tables, same-reached, df-list}
 use Rattle.page.specs.Bytes.{Bytes}
 use Rattle.page.specs.Image.{Outcome, accepted, refused, on-page, stationCount}
@@ -21,72 +20,60 @@ use Rattle.search.specs.Reply.{Query, withImage, frameOf, pagesOf, Lent,
 use Rattle.search.specs.Reply.{callCheck, onMap, afterCheck, searched, listOf}
 use Rattle.search.specs.Promises.{SameLengths, firsts, TimesAreLeast, PageIsFirstBad}
 use Rattle.search.specs.Promises.{ListAgainstDijkstra, Promised, DfPromised}
-use Rattle.search.proofs.Checking.{NamesNoPage, Admitted, Decided, turned-down, passed, decided, passes}
+use Rattle.search.proofs.Checking.{Admitted, Decided, turned-down, passed, decided, passes}
 use Rattle.search.proofs.Searches.{found, local-of, size-of, sound-of, least-of, refused-of}
 
 -- the front that was written
 front-of : (table entries : List ℕ) (n : ℕ) → length entries ≡ n → take n (placed table 0 entries) ≡ entries
-front-of table entries n e =
-    ap (λ k. take k (placed table 0 entries)) (sym e) ∙ placed-window table 0 entries (omega arith)
+front-of table entries n e = rw (← e) (placed-window table 0 entries (omega arith))
 
--- the list that a search which has ended hands back is its page list
-listed : (h : Halt) (F : Frame) (s : State) (t : Lent) → listOf (ended h F s t) ≡ s .pages
-listed going F s t = front-of (t .list) (s .pages) (length (s .pages)) refl
-listed (net.refused number p offset) F s t = front-of (t .list) (s .pages) (length (s .pages)) refl
+-- What a search that has ended hands back: its list is the page list, and its outcome says how the search halted.
+module _ (F : Frame) (s : State) (t : Lent) where
+  listed : (h : Halt) → listOf (ended h F s t) ≡ s .pages
+  listed going = front-of (t .list) (s .pages) (length (s .pages)) refl
+  listed (net.refused number p offset) = front-of (t .list) (s .pages) (length (s .pages)) refl
+
+  over : (h : Halt) → (ended h F s t) .reply .outcome ≡ accepted → h ≡ going
+  over going e = refl
+  over (net.refused number p offset) e = never (cc)
+
+  stopped : (h : Halt) (number p offset : ℕ) → (ended h F s t) .reply .outcome ≡ refused number (on-page p offset)
+      → h ≡ net.refused number p offset
+  stopped going number p offset e = never (cc)
+  stopped (net.refused n b o) number p offset e = cc
 
 module _ (q : Query) (t : Lent) (a : Admitted q t) (bytes : Bytes (q .image)) where
-  -- what a search that was not refused hands back is its state's
-  record AcceptedAs (s : State) (h : Handed) : Type 0 where
-    outcome : h .reply .outcome ≡ accepted
-    reached : h .reply .reached ≡ reached (frameOf q) s
-    times : firsts q (h .tables .times) ≡ s .times
-    preds : firsts q (h .tables .preds) ≡ s .preds
-    list : listOf h ≡ s .pages
-
-  over : (other : Lent) (h : Halt) (s : State) → (ended h (frameOf q) s other) .reply .outcome ≡ accepted → h ≡ going
-  over other going s e = refl
-  over other (net.refused number p offset) s e = never (cc)
-
+  -- what an accepted search hands back: in the tables' fronts are its times and predecessors
   accepted-as : (df : Bool) (other : Lent) → (found q df) .halt ≡ going
-      → AcceptedAs (found q df) (onMap (searchOf df) q other)
+      → onMap (searchOf df) q other ≡ ended going (frameOf q) (found q df) other
   unfolding onMap
-  accepted-as df other g =
-      let s = found q df in
+  accepted-as df other g = ap (λ h. ended h (frameOf q) (found q df) other) g
+
+  fronts : (df : Bool) (other : Lent) → (found q df) .halt ≡ going
+      → (firsts q (placed (other .times) 0 ((found q df) .times)) ≡ (found q df) .times)
+      × (firsts q (placed (other .preds) 0 ((found q df) .preds)) ≡ (found q df) .preds)
+  fronts df other g =
       let sizes = least-of q t a bytes df g .sizes in
-      let size = size-of q t a in
-      subst (λ h. AcceptedAs s (ended h (frameOf q) s other)) (sym g) (record {
-        outcome = refl;
-        reached = refl;
-        times = front-of (other .times) (s .times) (stationCount (q .image)) (sizes .0 ∙ size);
-        preds = front-of (other .preds) (s .preds) (stationCount (q .image)) (sizes .1 ∙ size);
-        list = listed going (frameOf q) s other;
-      })
+      (front-of _ _ _ (sizes .0 ∙ size-of q t a), front-of _ _ _ (sizes .1 ∙ size-of q t a))
+
+  over-on-map : (df : Bool) → (onMap (searchOf df) q t) .reply .outcome ≡ accepted → (found q df) .halt ≡ going
+  unfolding onMap
+  over-on-map df = over (frameOf q) (found q df) t ((found q df) .halt)
 
   -- demand 2
   least-on-map : (df : Bool) → TimesAreLeast q (onMap (searchOf df) q t)
-  unfolding onMap
   least-on-map df e =
-      let g = over t ((found q df) .halt) (found q df) e in
-      let k = accepted-as df t g in
-      rw (k .times, k .preds, k .reached) (least-of q t a bytes df g)
+      let g = over-on-map df e in
+      rw (accepted-as df t g, fronts df t g .0, fronts df t g .1) (least-of q t a bytes df g)
 
   -- which page is refused
-  refused-as : (h : Halt) (s : State) (number p offset : ℕ) → s .halt ≡ h
-      → (ended h (frameOf q) s t) .reply .outcome ≡ refused number (on-page p offset)
-      → ((n r o : ℕ) → s .halt ≡ net.refused n r o
-      → RefusedPage (frameOf q) (pagesOf q) (q .source) n r o × ((before : List ℕ) × (s .pages ≡ before ++ (r ∷ []))))
-      → RefusedPage (frameOf q) (pagesOf q) (q .source) number p offset
-      × ((before : List ℕ) × (listOf (ended h (frameOf q) s t) ≡ before ++ (p ∷ [])))
-  refused-as going s number p offset e r l = never (cc)
-  refused-as (net.refused n b o) s number p offset e r l =
-      let same : net.refused n b o ≡ net.refused number p offset = cc in
-      let f = l number p offset (e ∙ same) in
-      (f .0, (f .1 .0, listed (net.refused n b o) (frameOf q) s t ∙ f .1 .1))
-
   refused-on-map : (df : Bool) → PageIsFirstBad q (onMap (searchOf df) q t)
   unfolding onMap
   refused-on-map df number p offset e =
-      refused-as ((found q df) .halt) (found q df) number p offset refl e (refused-of q t a bytes df)
+      let s = found q df in
+      let halted = stopped (frameOf q) s t (s .halt) number p offset e in
+      let f = refused-of q t a bytes df number p offset halted in
+      (f .0, (f .1 .0, listed (frameOf q) s t (s .halt) ∙ f .1 .1))
 
   -- demand 3, our list against Dijkstra's
   dijkstras : (other : Lent) → SameLengths t other → searched plainSearch q other ≡ onMap plainSearch q other
@@ -97,20 +84,21 @@ module _ (q : Query) (t : Lent) (a : Admitted q t) (bytes : Bytes (q .image)) wh
       rw (passes q other (record { heading = a .heading; inside = a .inside; long = long }))
 
   list-on-map : ListAgainstDijkstra q t (onMap dfSearch q t)
-  unfolding onMap
   list-on-map e other same =
+      let g = over-on-map true e in
       let ok = sound-of q t a bytes in
-      let d = found q true in
-      let g = over t (d .halt) d e in
-      let ours = accepted-as true t g in
-      let theirs = accepted-as false other (same-halt (frameOf q) (pagesOf q) (q .source) ok ∙ g) in
+      let g′ = same-halt (frameOf q) (pagesOf q) (q .source) ok ∙ g in
       let tables = same-tables (frameOf q) (pagesOf q) (q .source) ok g in
-      rw (dijkstras other same) (record {
-        accepts = theirs .outcome;
-        reached = theirs .reached ∙ same-reached (frameOf q) (pagesOf q) (q .source) ok g ∙ sym (ours .reached);
-        times = ours .times ∙ sym (tables .0) ∙ sym (theirs .times);
-        preds = ours .preds ∙ sym (tables .1) ∙ sym (theirs .preds);
-        lists = rw (ours .list, theirs .list) (df-list (frameOf q) (pagesOf q) (q .source) ok g);
+      let ours = fronts true t g in
+      let theirs = fronts false other g′ in
+      rw (accepted-as true t g, dijkstras other same, accepted-as false other g′) (record {
+        accepts = refl;
+        reached = same-reached (frameOf q) (pagesOf q) (q .source) ok g;
+        times = ours .0 ∙ sym (tables .0) ∙ sym (theirs .0);
+        preds = ours .1 ∙ sym (tables .1) ∙ sym (theirs .1);
+        lists =
+            rw (listed (frameOf q) (found q true) t going, listed (frameOf q) (found q false) other going)
+            (df-list (frameOf q) (pagesOf q) (q .source) ok g);
       })
 
 -- demand 3, two images
@@ -137,7 +125,7 @@ module _ (df : Bool) (q : Query) (t : Lent) (other : List ℕ) (lengths : length
   unfolding onMap
   by-check (refused number place) agree = refl
   by-check accepted agree =
-      on-map-agrees (λ p m. agree p (rw (listed ((found q df) .halt) (frameOf q) (found q df) t) m))
+      on-map-agrees (λ p m. agree p (rw (listed (frameOf q) (found q df) t ((found q df) .halt)) m))
 
   pub images-agree : ((p : ℕ) → List·Memᴰ p (listOf (searched (searchOf df) q t)) → AgreeOnPage p (q .image) other)
       → searched (searchOf df) q t ≡ searched (searchOf df) (withImage other q) t
@@ -147,14 +135,13 @@ module _ (df : Bool) (q : Query) (t : Lent) (other : List ℕ) (lengths : length
 
 -- All promises, by what 1 to 7 decide.
 module _ (q : Query) (t : Lent) (bytes : Bytes (q .image)) where
-  times-of : (df : Bool) (o : Outcome) → Decided q t o → TimesAreLeast q (afterCheck (searchOf df) q t o)
-  times-of df o (turned-down number place k) e = never (cc)
-  times-of df o (passed a) e = least-on-map q t a bytes df e
-
-  refused-page-of : (df : Bool) (o : Outcome) → Decided q t o → PageIsFirstBad q (afterCheck (searchOf df) q t o)
-  refused-page-of df o (turned-down number place k) n p at e =
-      let same : place ≡ on-page p at = cc in absurd (subst (λ x. NamesNoPage (refused number x)) same k)
-  refused-page-of df o (passed a) n p at e = refused-on-map q t a bytes df n p at e
+  either-search : (df : Bool) (o : Outcome) → Decided q t o
+      → TimesAreLeast q (afterCheck (searchOf df) q t o) × PageIsFirstBad q (afterCheck (searchOf df) q t o)
+  either-search df o (turned-down number place k) = (
+    λ e. never (cc),
+    λ n p at e. let same : place ≡ on-page p at = cc in absurd (rw same at k),
+  )
+  either-search df o (passed a) = (least-on-map q t a bytes df, refused-on-map q t a bytes df)
 
   list-of : (o : Outcome) → Decided q t o → ListAgainstDijkstra q t (afterCheck dfSearch q t o)
   list-of o (turned-down number place k) e = never (cc)
@@ -164,8 +151,8 @@ module _ (q : Query) (t : Lent) (bytes : Bytes (q .image)) where
   unfolding searched
   promised-of df h is = rw is (record {
     outcome = refl;
-    times = times-of df (callCheck q t) (decided q t);
-    refused = refused-page-of df (callCheck q t) (decided q t);
+    times = either-search df (callCheck q t) (decided q t) .0;
+    refused = either-search df (callCheck q t) (decided q t) .1;
     images = images-agree df q t;
   })
 

@@ -1,6 +1,5 @@
 -- The heading's check decides: passed, 6 and 7 follow; refused by 1 to 5, that refusal is the call's.
-use Rattle.common.proofs.Ground.{sym, ap, _∙_, now, needs}
-use Rattle.page.specs.Image.{outcomeOf}
+use Rattle.common.proofs.Ground.{_∙_, needs}
 use Rattle.search.specs.Reply.{callCheck}
 use Rattle.search.proofs.calls.check_call.Statement.{statement}
 use Rattle.search.proofs.calls.check_call.Tie as tie
@@ -8,10 +7,9 @@ use Rattle.search.proofs.calls.check_call.Tie as tie
 returns : tie.Need-returns
 unfolding callCheck
 returns c =
-    let counted = c .before in
-    let whole = counted .before in
-    c .check-tables .ensures ∙
-    rw (← (whole .before .before .check-heading .ensures), whole .enum-told .given .1, counted .station-count .ensures .0)
+    let whole = c .before .before in
+    let heading = whole .before .before .check-heading .ensures in
+    c .check-tables .ensures ∙ rw (← heading, whole .enum-told .given .1, c .before .station-count .ensures .0)
 
 returns-2 : tie.Need-returns-2
 unfolding callCheck
