@@ -22,20 +22,20 @@ use page::image::check_heading;
 use page::image::refuse;
 use page::image::station_count;
 
-// Whether each table has an entry for each of n stations: 7.
-fn fits(n: usize, times: usize, preds: usize, marks: usize, list: usize) -> bool
-    ensures value { λ r. ⌜ not r ≡ ltb times n || (ltb preds n || (ltb marks n || ltb list n)) ⌝ }
+// Whether a table has no entry for some of n stations: 7.
+fn too_short(n: usize, times: usize, preds: usize, marks: usize, list: usize) -> bool
+    ensures value { λ r. ⌜ r ≡ ltb times n || (ltb preds n || (ltb marks n || ltb list n)) ⌝ }
 {
     if times < n {
-        return false;
+        return true;
     }
     if preds < n {
-        return false;
+        return true;
     }
     if marks < n {
-        return false;
+        return true;
     }
-    n <= list
+    list < n
 }
 
 // 6 and 7 for a map of n stations, of the source and the tables' lengths.
@@ -53,10 +53,10 @@ fn check_tables(
     if n <= source as usize {
         return refuse(6, Place::Nowhere);
     }
-    if fits(n, times, preds, marks, list) {
-        return Checked::Whole;
+    if too_short(n, times, preds, marks, list) {
+        return refuse(7, Place::Nowhere);
     }
-    refuse(7, Place::Nowhere)
+    Checked::Whole
 }
 
 // Refusals 1 to 7, in this order.
