@@ -24,3 +24,6 @@ pub use denote.Ref.{now}
 pub use borrow.Author.Needs.{needs}
 pub use borrow.Author.Tests.{eq-eqb, eqb-false, eqb-true, le-leb, le-ltb, leb-false, leb-true, lt-leb, lt-ltb}
 pub use borrow.Author.Tests.{ltb-false, ltb-true, ne-eqb, not-false, not-true}
+
+-- Each test of two numbers by what holds of them, for a search of what a choice by such tests comes to.
+pub ruleset tests = (le-ltb, lt-ltb, le-leb, lt-leb, eq-eqb, ne-eqb)

@@ -1,6 +1,5 @@
 -- The laws of the two tables, for the crates above: they cite them as Rattle.layout.proofs.NAME.
 
-pub mod Compare
 pub mod Slots
 pub mod Due
 pub mod Rows

@@ -37,7 +37,7 @@ module _ (layout : List ℕ) (i x : ℕ) where
     end-kept other = getD-set-other layout i (2048 + v) x 0 other
 
     -- a write that is neither a station's begin nor its end nor in its row
-    laid-kept : (p : ℕ) (row : List ℕ) → Laid layout p v row → (v ≡ i → ⊥) → (2048 + v ≡ i → ⊥)
+    pub laid-kept : (p : ℕ) (row : List ℕ) → Laid layout p v row → (v ≡ i → ⊥) → (2048 + v ≡ i → ⊥)
         → (beginOf layout v ≤ i → endOf layout v ≤ i) → Laid (set layout i x) p v row
     laid-kept p row laid other-begin other-end outside = record {
       begins = rw (begin-kept other-begin) (laid .begins);
@@ -47,31 +47,6 @@ module _ (layout : List ℕ) (i x : ℕ) where
           rw (begin-kept other-begin, end-kept other-end)
           (between-kept (beginOf layout v) (endOf layout v) outside ∙ laid .entries);
     }
-
--- The row of station v stays at a write of the kinds that the page reader makes.
-module _ (layout : List ℕ) (p v x : ℕ) (row : List ℕ) (laid : Laid layout p v row) (station : v < 2048) where
-  -- a write into another page's room
-  pub laid-other-page : (q i : ℕ) → (p ≡ q → ⊥) → 4096 + 51 * q ≤ i → i < 4096 + 51 * q + 51
-      → Laid (set layout i x) p v row
-  laid-other-page q i other low high =
-      laid-kept layout i x v p row laid (λ e. omega arith) (λ e. omega arith) (λ l. omega arith)
-
-  -- a write behind the row
-  pub laid-behind : (i : ℕ) → 4096 ≤ i → endOf layout v ≤ i → Laid (set layout i x) p v row
-  laid-behind i low behind =
-      laid-kept layout i x v p row laid (λ e. omega arith) (λ e. omega arith) (λ l. behind)
-
-  -- the begin or the end of another station
-  pub laid-other-begin : (w : ℕ) → w < 2048 → (v ≡ w → ⊥) → Laid (set layout w x) p v row
-  laid-other-begin w h other =
-      laid-kept layout w x v p row laid other (λ e. omega arith) (λ l. absurd (omega arith))
-
-  pub laid-other-end : (w : ℕ) → w < 2048 → (v ≡ w → ⊥) → Laid (set layout (2048 + w) x) p v row
-  laid-other-end w h other =
-      laid-kept layout (2048 + w) x v p row laid
-      (λ e. omega arith)
-      (λ e. other (omega arith))
-      (λ l. absurd (omega arith))
 
 -- A row that stands between two indexes of its page's room is laid out by writing where it begins and where it ends.
 module _ (p v from to : ℕ) (row : List ℕ) (station : v < 2048) (low : 4096 + 51 * p ≤ from) (ordered : from ≤ to)

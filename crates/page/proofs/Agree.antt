@@ -1,8 +1,7 @@
 -- What a reading depends on: images of one length that agree on the heading and the directory have the same heading
 -- check, and a page's reading depends on the directory, N with it, and that page's bytes alone.
 use Rattle.common.proofs.Ground.{_≡_, ap, sym, _∙_, List, ℕ, _<_, arith, length, getD, getD-take}
-use Rattle.page.specs.Image.{stationCount, pageCount, headingCheck}
-use Rattle.page.specs.Image.{AgreeOnHeading, AgreeOnDirectory, AgreeOnPage}
+use Rattle.page.specs.Image.{stationCount, pageCount, headingCheck, AgreeOnHeading, AgreeOnDirectory, AgreeOnPage}
 use Rattle.page.specs.Check.{readingOf}
 
 module _ (image other : List ℕ) where

@@ -1,61 +1,39 @@
 -- Where a page's fault can stand: within the page or right behind it, so that its offset is 256 at most. By induction
 -- over the commands read, each of which ends within the page.
-use Rattle.common.proofs.Ground.{_≡_, refl, Bool, true, false, not, _||_, List, ℕ, zero, suc, _+_, _*_, _≤_, arith}
-use Rattle.common.proofs.Ground.{length, ltb, eqb}
-use Rattle.common.specs.Pick.{pick}
+use Rattle.common.proofs.Ground.{not, _||_, List, ℕ, zero, suc, _+_, _*_, _≤_, arith, length, ltb, eqb}
+use Rattle.common.proofs.Cases.{by-pick}
 use Rattle.page.specs.declared.Move.{Move}
-use Rattle.page.specs.declared.Command.{Command}
-use Rattle.page.specs.declared.Command.the-variants.{End, Station, MoveTo, Fault}
-use Rattle.page.specs.Image.{Outcome, accepted, refused, nowhere, at-station, on-page, headingCheck}
-use Rattle.page.specs.Image.{stationCount, pageCount, directoryOf, pageBytes, firstNotBelow}
-use Rattle.page.specs.Reading.{Reading, good, bad, withMove, withStation}
-use Rattle.page.specs.Reading.{widthOf, nextOn, judgedAt, readFrom, readPage}
+use Rattle.page.specs.Image.{Outcome, accepted, refused, nowhere, at-station, on-page, headingCheck, stationCount}
+use Rattle.page.specs.Image.{pageCount, directoryOf, pageBytes, firstNotBelow}
+use Rattle.page.specs.Reading.{Reading, good, bad, withMove, withStation, readPage}
 use Rattle.page.specs.Check.{readingOf, pageOutcome, pagesFrom, afterHeading, wholeCheck}
 use Rattle.page.proofs.Parts.{page-short}
-use Rattle.page.proofs.Reading.Lengths.{stands}
-use Rattle.page.proofs.Reading.Judging.{judged-station, judged-move}
+use Rattle.page.proofs.Reading.Steps.{by-commands}
 
 -- A reading whose fault, if it has one, stands at an offset up to a limit.
 abbrev pub FaultBy : ℕ → Reading → Type 0
 FaultBy limit (good moves stations) = Unit {0}
 FaultBy limit (bad number offset) = offset ≤ limit
 
-module _ (directory : List ℕ) (p : ℕ) (page : List ℕ) where
-  abbrev In : Reading → Type 0
-  In = FaultBy (length page)
-
-  after-station : (v : ℕ) (r : Reading) → In r → In (withStation v r)
+module _ (limit : ℕ) where
+  after-station : (v : ℕ) (r : Reading) → FaultBy limit r → FaultBy limit (withStation v r)
   after-station v (good moves stations) k = tt
   after-station v (bad number offset) k = k
 
-  after-move : (m : Move) (r : Reading) → In r → In (withMove m r)
+  after-move : (m : Move) (r : Reading) → FaultBy limit r → FaultBy limit (withMove m r)
   after-move m (good moves stations) k = tt
   after-move m (bad number offset) k = k
 
-  command-in : (f at after least : ℕ) → at ≤ length page → (x : Command)
-      → judgedAt page at (length directory) (nextOn directory p after) after least ≡ x
-      → ((i a l : ℕ) → i ≤ length page → In (readFrom directory p page f i a l))
-      → In (readFrom directory p page (suc f) at after least)
-  unfolding readFrom
-  command-in f at after least h End e ih = rw (e, readFrom) tt
-  command-in f at after least h (Station v) e ih =
-      let ends = stands page at (judged-station page at _ _ _ _ v e .0) .0 in
-      rw (e, readFrom) (after-station v (readFrom directory p page f (at + widthOf (Station v)) (v + 1) 0)
-      (ih (at + widthOf (Station v)) (v + 1) 0 ends))
-  command-in f at after least h (MoveTo m) e ih =
-      let ends = stands page at (judged-move page at _ _ _ _ m e .0) .0 in
-      rw (e, readFrom) (after-move m (readFrom directory p page f (at + widthOf (MoveTo m)) after (m .target + 1))
-      (ih (at + widthOf (MoveTo m)) after (m .target + 1) ends))
-  command-in f at after least h (Fault number) e ih = rw (e, readFrom) h
-
-  read-in : (f at after least : ℕ) → at ≤ length page → In (readFrom directory p page f at after least)
-  unfolding readFrom
-  read-in zero at after least h = h
-  read-in (suc f) at after least h = command-in f at after least h _ refl (read-in f)
-
-  page-in : In (readPage directory p page)
-  unfolding readPage
-  page-in = read-in (suc (length page)) 0 0 0 (omega arith)
+page-in : (directory : List ℕ) (p : ℕ) (page : List ℕ) (limit : ℕ) → length page ≤ limit
+    → FaultBy limit (readPage directory p page)
+unfolding readPage
+page-in directory p page limit short =
+    by-commands directory p page (λ at after least r. at ≤ limit → FaultBy limit r)
+    (λ at after least number h. h)
+    (λ at after least j h. tt)
+    (λ at after least v j r k h. after-station limit v r (k (omega arith)))
+    (λ at after least m j r k h. after-move limit m r (k (omega arith)))
+    (suc (length page)) 0 0 0 (omega arith)
 
 -- An outcome whose offset, if it names one, is 256 at most.
 abbrev pub PlaceBy256 : Outcome → Type 0
@@ -64,29 +42,21 @@ PlaceBy256 (refused number nowhere) = Unit {0}
 PlaceBy256 (refused number (at-station station)) = Unit {0}
 PlaceBy256 (refused number (on-page p offset)) = offset ≤ 256
 
-either : (b : Bool) (x y : Outcome) → PlaceBy256 x → PlaceBy256 y → PlaceBy256 (pick b x y)
-either true x y k l = k
-either false x y k l = l
-
 module _ (image : List ℕ) where
-  lower-limit : (n m : ℕ) (r : Reading) → n ≤ m → FaultBy n r → FaultBy m r
-  lower-limit n m (good moves stations) h k = tt
-  lower-limit n m (bad number offset) h k = omega arith
-
   pub reading-by-256 : (p : ℕ) → FaultBy 256 (readingOf image p)
   unfolding readingOf
-  reading-by-256 p =
-      lower-limit (length (pageBytes image p)) 256 (readingOf image p) (page-short image p)
-      (page-in (directoryOf image) p (pageBytes image p))
+  reading-by-256 p = page-in (directoryOf image) p (pageBytes image p) 256 (page-short image p)
 
-  pub heading-by-256 : PlaceBy256 (headingCheck image)
+  heading-by-256 : PlaceBy256 (headingCheck image)
   unfolding headingCheck
   heading-by-256 =
-      either (ltb (length image) 4) _ _ tt
-      (either (eqb (stationCount image) 0 || ltb 2048 (stationCount image)) _ _ tt
-      (either (eqb (pageCount image) 0 || ltb 240 (pageCount image)) _ _ tt
-      (either (not (eqb (length image) (4 + stationCount image + 256 * pageCount image))) _ _ tt
-      (either (ltb (firstNotBelow (pageCount image) (directoryOf image)) (stationCount image)) _ _ tt tt))))
+      let N = stationCount image in
+      let P = pageCount image in
+      by-pick PlaceBy256 (ltb (length image) 4) (λ t. tt) λ f.
+      by-pick PlaceBy256 (eqb N 0 || ltb 2048 N) (λ t. tt) λ f.
+      by-pick PlaceBy256 (eqb P 0 || ltb 240 P) (λ t. tt) λ f.
+      by-pick PlaceBy256 (not (eqb (length image) (4 + N + 256 * P))) (λ t. tt) λ f.
+      by-pick PlaceBy256 (ltb (firstNotBelow P (directoryOf image)) N) (λ t. tt) (λ f. tt)
 
   page-by-256 : (p : ℕ) (r : Reading) (following : Outcome) → FaultBy 256 r → PlaceBy256 following
       → PlaceBy256 (pageOutcome p r following)

@@ -1,98 +1,74 @@
--- Commands and the bytes that spell them: a command read stands there byte by byte, and those bytes read as that
--- command.
-use Rattle.common.proofs.Ground.{_≡_, refl, ap, sym, _∙_, List, _∷_, ℕ, _+_, _/_, _%_, _≤_, _<_, arith, add-one}
-use Rattle.common.proofs.Ground.{add-zero, length, getD, drop, length-drop, drop-cons, getD-drop, lt-leb, le-ltb}
+-- Commands and the bytes that spell them: a command that stands on a page is spelled there byte by byte, and the bytes
+-- that spell a command read as that command.
+use Rattle.common.proofs.Ground.{_≡_, ap, sym, _∙_, List, _∷_, ℕ, suc, _+_, _/_, _%_, _<_, arith, add-zero, length}
+use Rattle.common.proofs.Ground.{getD, drop, length-drop, drop-cons, getD-drop}
 use Rattle.page.specs.declared.Move.{Move}
 use Rattle.page.specs.declared.Command.the-variants.{End, Station, MoveTo}
 use Rattle.page.specs.Bytes.{word, Bytes}
-use Rattle.page.specs.Reading.{lengthOf, widthOf, commandAt}
+use Rattle.page.specs.Reading.{widthOf, commandAt}
 use Rattle.page.specs.Good.{spellMove}
-use Rattle.page.proofs.Reading.Lengths.{stands}
-
-module _ (page : List ℕ) where
-  -- one byte, and the rest
-  next-byte : (i j : ℕ) → j ≡ i + 1 → i < length page → drop i page ≡ getD page i 0 ∷ drop j page
-  next-byte i j e h = rw (e, add-one i) (drop-cons page i 0 h)
-
-  pub three-bytes : (at : ℕ) → at + 3 ≤ length page
-      → drop at page ≡ getD page at 0 ∷ getD page (at + 1) 0 ∷ getD page (at + 2) 0 ∷ drop (at + 3) page
-  three-bytes at h =
-      next-byte at (at + 1) refl (omega arith) ∙
-      ap (λ l. getD page at 0 ∷ l)
-      (next-byte (at + 1) (at + 2) (omega arith) (omega arith) ∙
-      ap (λ l. getD page (at + 1) 0 ∷ l) (next-byte (at + 2) (at + 3) (omega arith) (omega arith)))
-
-  pub five-bytes : (at : ℕ) → at + 5 ≤ length page
-      → drop at page
-      ≡ getD page at 0 ∷ getD page (at + 1) 0 ∷ getD page (at + 2) 0 ∷ getD page (at + 3) 0 ∷ getD page (at + 4) 0
-      ∷ drop (at + 5) page
-  five-bytes at h =
-      three-bytes at (omega arith) ∙
-      ap (λ l. getD page at 0 ∷ getD page (at + 1) 0 ∷ getD page (at + 2) 0 ∷ l)
-      (next-byte (at + 3) (at + 4) (omega arith) (omega arith) ∙
-      ap (λ l. getD page (at + 3) 0 ∷ l) (next-byte (at + 4) (at + 5) (omega arith) (omega arith)))
-
-  -- a byte of what stands from an offset on
-  byte-of : (at i : ℕ) (l : List ℕ) → drop at page ≡ l → getD page (at + i) 0 ≡ getD l i 0
-  byte-of at i l e = sym (getD-drop at page i 0) ∙ ap (λ k. getD k i 0) e
-
-  word-of : (at i : ℕ) (l : List ℕ) → drop at page ≡ l → word page (at + i) ≡ word l i
-  word-of at i l e =
-      let high : getD page (at + i + 1) 0 ≡ getD l (i + 1) 0 =
-      ap (λ k. getD page k 0) (omega arith) ∙ byte-of at (i + 1) l e in
-      omega (arith, byte-of at i l e)
+use Rattle.page.proofs.Reading.Lengths.{Stands, command-end, command-station, command-move}
 
 module _ (page : List ℕ) (at : ℕ) where
+  -- one byte, and the rest
+  next-byte : (i : ℕ) → at + i < length page → drop (at + i) page ≡ getD page (at + i) 0 ∷ drop (at + (i + 1)) page
+  next-byte i h = let e : at + (i + 1) ≡ suc (at + i) = omega arith in rw e (drop-cons page (at + i) 0 h)
+
   module _ (bytes : Bytes page) where
     -- a number read from two bytes is spelled by them
-    word-bytes : (i j v : ℕ) → j ≡ i + 1 → word page i ≡ v → (getD page i 0 ≡ v % 256) × (getD page j 0 ≡ v / 256)
-    word-bytes i j v e q =
-        let low = bytes i in
-        let high = bytes (i + 1) in
-        (omega arith, ap (λ k. getD page k 0) e ∙ omega arith)
+    word-bytes : (i v : ℕ) → word page (at + i) ≡ v
+        → (getD page (at + i) 0 ≡ v % 256) × (getD page (at + (i + 1)) 0 ≡ v / 256)
+    word-bytes i v e =
+        let next : at + (i + 1) ≡ at + i + 1 = omega arith in
+        rw next (omega (arith, bytes (at + i), bytes (at + i + 1)))
 
-    pub station-bytes : (v : ℕ) → commandAt page at ≡ Station v
+    pub station-bytes : (v : ℕ) → Stands page at (Station v)
         → drop at page ≡ 1 ∷ v % 256 ∷ v / 256 ∷ drop (at + widthOf (Station v)) page
-    station-bytes v e =
-        let s = stands page at e in
-        let number = word-bytes (at + 1) (at + 2) v (omega arith) (s .2) in
-        rw (three-bytes page at (s .0), s .1, number .0, number .1)
+    station-bytes v s =
+        let number = word-bytes 1 v (s .2) in
+        cc (add-zero at, next-byte 0 (omega arith), next-byte 1 (omega arith), next-byte 2 (omega arith))
 
-    pub move-bytes : (m : Move) → commandAt page at ≡ MoveTo m
+    pub move-bytes : (m : Move) → Stands page at (MoveTo m)
         → drop at page ≡ spellMove m (drop (at + widthOf (MoveTo m)) page)
-    move-bytes m e =
-        let s = stands page at e in
-        let target = word-bytes (at + 1) (at + 2) (m .target) (omega arith) (s .2) in
-        let time = word-bytes (at + 3) (at + 4) (m .time) (omega arith) (s .3) in
-        rw (five-bytes page at (s .0), s .1, target .0, target .1, time .0, time .1)
+    move-bytes m s =
+        let target = word-bytes 1 (m .target) (s .2) in
+        let time = word-bytes 3 (m .time) (s .3) in
+        cc (
+          add-zero at,
+          next-byte 0 (omega arith),
+          next-byte 1 (omega arith),
+          next-byte 2 (omega arith),
+          next-byte 3 (omega arith),
+          next-byte 4 (omega arith),
+        )
 
-    pub move-time-fits : (m : Move) → commandAt page at ≡ MoveTo m → m .time < 65536
-    move-time-fits m e = let s = stands page at e in omega (arith, s .3, bytes (at + 3), bytes (at + 3 + 1))
+    pub move-time-fits : (m : Move) → Stands page at (MoveTo m) → m .time < 65536
+    move-time-fits m s = omega (arith, bytes (at + 3), bytes (at + 3 + 1))
 
   -- the other way: bytes that spell a command
+  module _ {l : List ℕ} (e : drop at page ≡ l) where
+    byte-of : (i : ℕ) → getD page (at + i) 0 ≡ getD l i 0
+    byte-of i = sym (getD-drop at page i 0) ∙ ap (λ k. getD k i 0) e
+
+    code-of : getD page at 0 ≡ getD l 0 0
+    code-of = rw add-zero at (byte-of 0)
+
+    word-of : (i : ℕ) → word page (at + i) ≡ word l i
+    word-of i =
+        let next : at + i + 1 ≡ at + (i + 1) = omega arith in
+        rw next (omega (arith, byte-of i, byte-of (i + 1)))
+
   pub read-end : (rest : List ℕ) → drop at page ≡ 0 ∷ rest → commandAt page at ≡ End
-  unfolding commandAt
-  read-end rest e =
-      let code : getD page at 0 ≡ 0 = rw add-zero at (byte-of page at 0 (0 ∷ rest) e) in
-      let long : at < length page = omega (arith, length-drop at page, ap length e) in
-      rw (code, lt-leb (length page) at long, le-ltb (length page) (at + lengthOf 0) (omega arith))
+  read-end rest e = command-end page at (code-of e) (omega (arith, length-drop at page, ap length e))
 
   pub read-station : (v : ℕ) (rest : List ℕ) → drop at page ≡ 1 ∷ v % 256 ∷ v / 256 ∷ rest
       → commandAt page at ≡ Station v
-  unfolding commandAt
   read-station v rest e =
-      let l : List ℕ = 1 ∷ v % 256 ∷ v / 256 ∷ rest in
-      let code : getD page at 0 ≡ 1 = rw add-zero at (byte-of page at 0 l e) in
-      let long : at + lengthOf 1 ≤ length page = omega (arith, length-drop at page, ap length e) in
-      let number : word page (at + 1) ≡ v = omega (arith, word-of page at 1 l e) in
-      rw (code, lt-leb (length page) at (omega arith), le-ltb (length page) (at + lengthOf 1) long, number)
+      let number : word page (at + 1) ≡ v = omega (arith, word-of e 1) in
+      rw (command-station page at (code-of e) (omega (arith, length-drop at page, ap length e)), number)
 
   pub read-move : (m : Move) (rest : List ℕ) → drop at page ≡ spellMove m rest → commandAt page at ≡ MoveTo m
-  unfolding commandAt
   read-move m rest e =
-      let l = spellMove m rest in
-      let code : getD page at 0 ≡ 2 = rw add-zero at (byte-of page at 0 l e) in
-      let long : at + lengthOf 2 ≤ length page = omega (arith, length-drop at page, ap length e) in
-      let target : word page (at + 1) ≡ m .target = omega (arith, word-of page at 1 l e) in
-      let time : word page (at + 3) ≡ m .time = omega (arith, word-of page at 3 l e) in
-      rw (code, lt-leb (length page) at (omega arith), le-ltb (length page) (at + lengthOf 2) long, target, time)
+      let target : word page (at + 1) ≡ m .target = omega (arith, word-of e 1) in
+      let time : word page (at + 3) ≡ m .time = omega (arith, word-of e 3) in
+      rw (command-move page at (code-of e) (omega (arith, length-drop at page, ap length e)), target, time)

@@ -1,128 +1,60 @@
--- What a judgement says of a command: a command that passes is the command read, and its rules hold. Each rule is a
--- test of numbers, so every fact follows by the cases of the tests.
-use Rattle.common.proofs.Ground.{_≡_, refl, ap, sym, _∙_, Bool, true, false, _⊎_, inl, inr, ⊎-elim, List, ℕ, _+_, _≤_}
-use Rattle.common.proofs.Ground.{_<_, arith, drop, eqb, ltb, leb, leb-false, ltb-false, eqb-true, eqb-false}
-use Rattle.common.specs.Pick.{pick}
-use Rattle.common.proofs.Cases.{never}
-use Rattle.page.specs.declared.Move.{Move}
+-- What a judgement says of a command: one that passes is the command read, and it keeps its rules; and a command read
+-- that keeps its rules passes. Each rule is a test of numbers, so every fact follows by the cases of the tests.
+use Rattle.common.proofs.Ground.{_≡_, _≢_, refl, subst, true, List, ℕ, _+_, _≤_, _<_, arith, drop, eqb, ltb, leb}
+use Rattle.common.proofs.Ground.{leb-false, ltb-false, eqb-true, eqb-false, tests}
+use Rattle.common.proofs.Cases.{by-pick}
 use Rattle.page.specs.declared.Command.{Command}
 use Rattle.page.specs.declared.Command.the-variants.{End, Station, MoveTo, Fault}
 use Rattle.page.specs.Bytes.{allZero}
 use Rattle.page.specs.Reading.{commandAt, judgeEnd, judgeStation, judgeMove, judge, judgedAt}
+use Rattle.page.proofs.Reading.Lengths.{Stands, stands}
 
--- a judged command is the command itself, or a fault
-abbrev pub SameOrFault : Command → Command → Type 0
-SameOrFault x y = (y ≡ x) ⊎ ((number : ℕ) × (y ≡ Fault number))
-
-fault-before : (x y : Command) (b : Bool) (number : ℕ) → SameOrFault x y → SameOrFault x (pick b (Fault number) y)
-fault-before x y true number k = inr (number, refl)
-fault-before x y false number k = k
-
-fault-after : (x : Command) (b : Bool) (number : ℕ) → SameOrFault x (pick b x (Fault number))
-fault-after x true number = inl refl
-fault-after x false number = inr (number, refl)
-
-module _ (size due after least : ℕ) (rest : List ℕ) where
-  pub judge-keeps : (x : Command) → SameOrFault x (judge size due after least rest x)
-  unfolding judge judgeEnd judgeStation judgeMove
-  judge-keeps End = fault-before End _ (ltb due size) 10 (fault-after End (allZero rest) 14)
-  judge-keeps (Station v) = fault-before (Station v) _ (leb size v) 10 (fault-after (Station v) (eqb v due) 10)
-  judge-keeps (MoveTo m) =
-      fault-before (MoveTo m) _ (eqb after 0) 11
-      (fault-before (MoveTo m) _ (leb size (m .target)) 12
-      (fault-before (MoveTo m) _ (eqb (m .target + 1) after) 12
-      (fault-before (MoveTo m) _ (ltb (m .target) least) 12
-      (fault-before (MoveTo m) _ (eqb (m .time) 0) 13 (inl refl)))))
-  judge-keeps (Fault number) = inl refl
-
--- 10 and 14: no station is missing, and nothing but zeros follows
-pub record EndHolds (size due : ℕ) (rest : List ℕ) : Type 0 where
-  pub complete : size ≤ due
-  pub zeros : allZero rest ≡ true
-
--- 10: the next station
-pub record StationHolds (size due v : ℕ) : Type 0 where
-  pub below : v < size
-  pub next : v ≡ due
-
--- 11, 12, 13
-pub record MoveHolds (size after least : ℕ) (m : Move) : Type 0 where
-  pub begun : after ≡ 0 → ⊥
-  pub below : m .target < size
-  pub other : m .target + 1 ≡ after → ⊥
-  pub rising : least ≤ m .target
-  pub timed : m .time ≡ 0 → ⊥
-
-module _ (size due : ℕ) where
-  end-cases : (rest : List ℕ) (a b : Bool) → ltb due size ≡ a → allZero rest ≡ b
-      → pick a (Fault 10) (pick b End (Fault 14)) ≡ End → EndHolds size due rest
-  end-cases rest true b ha hb q = never (cc)
-  end-cases rest false true ha hb q = record { complete = ltb-false due size ha; zeros = hb }
-  end-cases rest false false ha hb q = never (cc)
-
-  station-cases : (v : ℕ) (a b : Bool) → leb size v ≡ a → eqb v due ≡ b
-      → pick a (Fault 10) (pick b (Station v) (Fault 10)) ≡ Station v → StationHolds size due v
-  station-cases v true b ha hb q = never (cc)
-  station-cases v false true ha hb q = record { below = leb-false size v ha; next = eqb-true v due hb }
-  station-cases v false false ha hb q = never (cc)
-
-module _ (size after least : ℕ) (m : Move) where
-  move-cases : (a b c d e : Bool) → eqb after 0 ≡ a → leb size (m .target) ≡ b → eqb (m .target + 1) after ≡ c
-      → ltb (m .target) least ≡ d → eqb (m .time) 0 ≡ e
-      → pick a (Fault 11) (pick b (Fault 12) (pick c (Fault 12) (pick d (Fault 12) (pick e (Fault 13) (MoveTo m)))))
-      ≡ MoveTo m
-      → MoveHolds size after least m
-  move-cases true b c d e ha hb hc hd he q = never (cc)
-  move-cases false true c d e ha hb hc hd he q = never (cc)
-  move-cases false false true d e ha hb hc hd he q = never (cc)
-  move-cases false false false true e ha hb hc hd he q = never (cc)
-  move-cases false false false false true ha hb hc hd he q = never (cc)
-  move-cases false false false false false ha hb hc hd he q = record {
-    begun = eqb-false after 0 ha;
-    below = leb-false size (m .target) hb;
-    other = eqb-false (m .target + 1) after hc;
-    rising = ltb-false (m .target) least hd;
-    timed = eqb-false (m .time) 0 he;
-  }
-
--- What was read, where the judgement passes.
 module _ (page : List ℕ) (at size due after least : ℕ) where
-  read-of : (y : Command) → ((number : ℕ) → y ≡ Fault number → _≡_ {A = ℕ} 0 1)
-      → judgedAt page at size due after least ≡ y → commandAt page at ≡ y
+  -- The rules that a command keeps: for `00` 10 and 14, for `01` 10, for `02` 11, 12 and 13.
+  abbrev pub Keeps : Command → Type 0
+  Keeps End = record { complete : size ≤ due; zeros : allZero (drop at page) ≡ true }
+  Keeps (Station v) = record { below : v < size; next : v ≡ due }
+  Keeps (MoveTo m) = record {
+    begun : after ≢ 0;
+    below : m .target < size;
+    other : m .target + 1 ≢ after;
+    rising : least ≤ m .target;
+    timed : m .time ≢ 0;
+  }
+  Keeps (Fault number) = Unit {0}
+
+  -- What is known of a command that passes: it stands there and keeps its rules. Of a fault nothing is.
+  abbrev pub Judged : Command → Type 0
+  Judged x = Stands page at x × Keeps x
+
+  judged-cases : (y : Command) → Stands page at y → Judged (judge size due after least (drop at page) y)
+  unfolding judge judgeEnd judgeStation judgeMove
+  judged-cases End s =
+      by-pick Judged (ltb due size) (λ missing. (tt, tt)) λ complete.
+      by-pick Judged (allZero (drop at page))
+      (λ zeros. (s, record { complete = ltb-false due size complete; zeros = zeros }))
+      (λ other. (tt, tt))
+  judged-cases (Station v) s =
+      by-pick Judged (leb size v) (λ past. (tt, tt)) λ below.
+      by-pick Judged (eqb v due)
+      (λ next. (s, omega (arith, leb-false, eqb-true)))
+      (λ other. (tt, tt))
+  judged-cases (MoveTo m) s =
+      by-pick Judged (eqb after 0) (λ none. (tt, tt)) λ begun.
+      by-pick Judged (leb size (m .target)) (λ past. (tt, tt)) λ below.
+      by-pick Judged (eqb (m .target + 1) after) (λ own. (tt, tt)) λ other.
+      by-pick Judged (ltb (m .target) least) (λ falling. (tt, tt)) λ rising.
+      by-pick Judged (eqb (m .time) 0) (λ no-time. (tt, tt)) (λ timed.
+      (s, omega (arith, eqb-false, leb-false, ltb-false)))
+  judged-cases (Fault number) s = (tt, tt)
+
+  pub judged : {x : Command} → judgedAt page at size due after least ≡ x → Judged x
   unfolding judgedAt
-  read-of y not-fault e =
-      ⊎-elim
-      (λ same. sym same ∙ e)
-      (λ fault. never (not-fault (fault .0) (sym e ∙ fault .1)))
-      (judge-keeps size due after least (drop at page) (commandAt page at))
+  judged e = subst Judged e (judged-cases (commandAt page at) (stands page at refl))
 
-  judged-of : (y : Command) → commandAt page at ≡ y
-      → judgedAt page at size due after least ≡ judge size due after least (drop at page) y
-  unfolding judgedAt
-  judged-of y e = ap (judge size due after least (drop at page)) e
-
-  pub judged-end : judgedAt page at size due after least ≡ End
-      → (commandAt page at ≡ End) × EndHolds size due (drop at page)
-  unfolding judge judgeEnd
-  judged-end e =
-      let r = read-of End (λ n k. cc) e in
-      (r, end-cases size due (drop at page) _ _ refl refl (sym (judged-of End r) ∙ e))
-
-  pub judged-station : (v : ℕ) → judgedAt page at size due after least ≡ Station v
-      → (commandAt page at ≡ Station v) × StationHolds size due v
-  unfolding judge judgeStation
-  judged-station v e =
-      let r = read-of (Station v) (λ n k. cc) e in
-      (r, station-cases size due v _ _ refl refl (sym (judged-of (Station v) r) ∙ e))
-
-  pub judged-move : (m : Move) → judgedAt page at size due after least ≡ MoveTo m
-      → (commandAt page at ≡ MoveTo m) × MoveHolds size after least m
-  unfolding judge judgeMove
-  judged-move m e =
-      let r = read-of (MoveTo m) (λ n k. cc) e in
-      (r, move-cases size after least m _ _ _ _ _ refl refl refl refl refl (sym (judged-of (MoveTo m) r) ∙ e))
-
-  -- what the code judges is what was read, judged
-  pub judged-as : (x y r : Command) → x ≡ commandAt page at → x ≡ y → r ≡ judge size due after least (drop at page) y
-      → r ≡ judgedAt page at size due after least
-  judged-as x y r e q f = f ∙ sym (judged-of y (sym e ∙ q))
+  pub passes : (x : Command) → commandAt page at ≡ x → Keeps x → judgedAt page at size due after least ≡ x
+  unfolding judgedAt judge judgeEnd judgeStation judgeMove
+  passes End e k = rw e (search (tests, k .zeros))
+  passes (Station v) e k = rw e (search tests)
+  passes (MoveTo m) e k = rw e (search tests)
+  passes (Fault number) e k = rw e

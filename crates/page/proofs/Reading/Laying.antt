@@ -1,12 +1,12 @@
 -- The rows of the stations that have been named so far. The latest station's row has the moves read so far, and the
--- rest is still to come; the rows of the earlier ones have all their moves. A move is written behind the latest row, in
--- the page's own room, so that no other row is touched.
-use Rattle.common.proofs.Ground.{_≡_, refl, ap, sym, _∙_, _≢_, List, [], _∷_, _++_, map-append, append-assoc, ℕ, _+_}
-use Rattle.common.proofs.Ground.{_-_, _*_, _≤_, _<_, arith, sub-self, length, getD, take, drop, set, length-set}
-use Rattle.common.proofs.Ground.{getD-set-same}
+-- rest is still to come; the rows of the earlier ones have all their moves. A row is begun, and a move is laid out, by
+-- two writes: one at the row's begin or behind the latest row, in the page's own room, and one at the latest row's end.
+-- So no other row is touched.
+use Rattle.common.proofs.Ground.{_≡_, refl, ap, sym, _∙_, _≢_, _⊎_, ⊎-elim, List, [], _∷_, _++_, map-append}
+use Rattle.common.proofs.Ground.{append-assoc, ℕ, _+_, _-_, _*_, _≤_, _<_, arith, sub-self, length, getD, take, drop}
+use Rattle.common.proofs.Ground.{set, length-set, getD-set-same}
 use Rattle.layout.specs.Rows.{entryOf, beginOf, endOf, Laid}
-use Rattle.layout.proofs.Rows.{between-more, begin-kept, end-kept, laid-end, laid-new}
-use Rattle.layout.proofs.Rows.{laid-other-page, laid-behind, laid-other-begin, laid-other-end}
+use Rattle.layout.proofs.Rows.{between-more, begin-kept, end-kept, laid-kept, laid-end, laid-new}
 use Rattle.page.specs.declared.Move.{Move}
 use Rattle.page.specs.Laying.{rowFor, OthersKept}
 
@@ -23,121 +23,87 @@ pub record Row (layout : List ℕ) (p v k : ℕ) (moves rest : List Move) : Type
   pub ends : endOf layout v ≤ k
   pub split : moves ≡ row ++ rest
 
--- The two writes that begin a row, and those that lay out a move.
-abbrev pub begunAt : List ℕ → ℕ → ℕ → List ℕ
-begunAt layout v k = set (set layout v k) (2048 + v) k
+-- The two writes: one at entry i, and one at the end of the row of station v.
+abbrev pub written : List ℕ → ℕ → ℕ → ℕ → ℕ → List ℕ
+written layout i x v end = set (set layout i x) (2048 + v) end
 
-abbrev pub movedAt : List ℕ → ℕ → ℕ → Move → List ℕ
-movedAt layout v k m = set (set layout k (entryOf (m .time) (m .target))) (2048 + v) (k + 1)
+module _ (layout : List ℕ) (i x v end : ℕ) where
+  pub length-written : length (written layout i x v end) ≡ length layout
+  length-written = length-set (set layout i x) (2048 + v) end ∙ length-set layout i x
+
+  -- the station itself
+  pub end-own : v < 2048 → length layout ≡ 17152 → endOf (written layout i x v end) v ≡ end
+  end-own station size = getD-set-same (set layout i x) (2048 + v) end 0 (omega (arith, length-set layout i x))
+
+  -- another, whose begin, end and row are not at entry i
+  module _ (u : ℕ) (other : u ≢ v) (off : 2048 + u ≢ i) where
+    end-other : endOf (written layout i x v end) u ≡ endOf layout u
+    end-other = end-kept (set layout i x) (2048 + v) end u (λ e. other (omega arith)) ∙ end-kept layout i x u off
+
+    laid-other : (q : ℕ) (row : List ℕ) → u < 2048 → v < 2048 → u ≢ i
+        → (beginOf layout u ≤ i → endOf layout u ≤ i) → Laid layout q u row → Laid (written layout i x v end) q u row
+    laid-other q row h station begins outside l =
+        let once = laid-kept layout i x u q row l begins off outside in
+        laid-kept (set layout i x) (2048 + v) end u q row once (omega arith) (omega arith) (λ b. absurd (omega arith))
 
 module _ {layout : List ℕ} {p k : ℕ} (room : Room layout p k) (v : ℕ) (station : v < 2048) where
-  pub end-begun : endOf (begunAt layout v k) v ≡ k
-  end-begun = getD-set-same (set layout v k) (2048 + v) k 0 (omega (arith, room .size, length-set layout v k))
-
-  pub row-begun : (moves : List Move) → k ≤ 4096 + 51 * p + 51 → Row (begunAt layout v k) p v k moves moves
+  pub row-begun : (moves : List Move) → k ≤ 4096 + 51 * p + 51 → Row (written layout v k v k) p v k moves moves
   row-begun moves high = record {
     row = [];
     laid = laid-new p v k k [] station (room .from) (omega arith) high layout (room .size) (rw (sub-self k));
-    ends = omega (arith, end-begun);
+    ends = omega (arith, end-own layout v k v k station (room .size));
     split = refl;
   }
 
-  pub kept-at-begin : {u : ℕ} {moves rest : List Move} → u < 2048 → u ≢ v → Row layout p u k moves rest
-      → Row (begunAt layout v k) p u k moves rest
-  kept-at-begin {u} h other r =
-      let once = laid-other-begin layout p u k (rowFor (r .row)) (r .laid) h v station other in
+  pub row-more : (m : Move) {moves rest : List Move} → k < 4096 + 51 * p + 51 → endOf layout v ≡ k
+      → Row layout p v k moves (m ∷ rest)
+      → Row (written layout k (entryOf (m .time) (m .target)) v (k + 1)) p v (k + 1) moves rest
+  row-more m {rest = rest} inside latest r =
+      let from = beginOf layout v in
+      let entry = entryOf (m .time) (m .target) in
+      let ordered : from ≤ k = omega (arith, r .laid .ordered) in
+      let so-far : take (k - from) (drop from layout) ≡ rowFor (r .row) = rw latest at (r .laid .entries) in
+      let stands : take (k + 1 - from) (drop from (set layout k entry)) ≡ rowFor (r .row ++ (m ∷ [])) =
+      between-more layout k entry from ordered (omega arith) ∙
+      ap (λ l. l ++ (entry ∷ [])) so-far ∙
+      sym (map-append (λ (x : Move). entryOf (x .time) (x .target)) (r .row) (m ∷ [])) in
+      record {
+        row = r .row ++ (m ∷ []);
+        laid = laid-end p v from (k + 1) (rowFor (r .row ++ (m ∷ []))) station (r .laid .begins) (omega arith)
+            (omega arith) (set layout k entry) (length-set layout k entry ∙ room .size)
+            (begin-kept layout k entry v (omega arith)) stands;
+        ends = omega (arith, end-own layout k entry v (k + 1) station (room .size));
+        split = r .split ∙ sym (append-assoc (r .row) (m ∷ []) rest);
+      }
+
+  pub row-kept : (i x end : ℕ) → (i ≡ v) ⊎ (i ≡ k) → k ≤ end → {u : ℕ} {moves rest : List Move} → u < 2048 → u ≢ v
+      → Row layout p u k moves rest → Row (written layout i x v end) p u end moves rest
+  row-kept i x end place onward {u} h other r =
+      let off : (2048 + u ≢ i) × (u ≢ i) × (beginOf layout u ≤ i → endOf layout u ≤ i) =
+      ⊎-elim (λ e. omega arith) (λ e. omega arith) place in
       record {
         row = r .row;
-        laid = laid-other-end (set layout v k) p u k (rowFor (r .row)) once h v station other;
-        ends = rw (
-          end-kept (set layout v k) (2048 + v) k u (λ e. other (omega arith)),
-          end-kept layout v k u (λ e. omega arith),
-        ) (r .ends);
+        laid = laid-other layout i x v end u other (off .0) p (rowFor (r .row)) h station (off .1) (off .2) (r .laid);
+        ends = omega (arith, end-other layout i x v end u other (off .0));
         split = r .split;
       }
 
-  module _ (m : Move) (inside : k < 4096 + 51 * p + 51) where
-    abbrev entry : ℕ
-    entry = entryOf (m .time) (m .target)
-
-    pub end-moved : endOf (movedAt layout v k m) v ≡ k + 1
-    end-moved = getD-set-same (set layout k entry) (2048 + v) (k + 1) 0
-        (omega (arith, room .size, length-set layout k entry))
-
-    pub row-more : {moves rest : List Move} → endOf layout v ≡ k → Row layout p v k moves (m ∷ rest)
-        → Row (movedAt layout v k m) p v (k + 1) moves rest
-    row-more {moves} {rest} latest r =
-        let from = beginOf layout v in
-        let ordered : from ≤ k = omega (arith, r .laid .ordered) in
-        let so-far : take (k - from) (drop from layout) ≡ rowFor (r .row) = rw latest at (r .laid .entries) in
-        let stands : take (k + 1 - from) (drop from (set layout k entry)) ≡ rowFor (r .row ++ (m ∷ [])) =
-        between-more layout k entry from ordered (omega (arith, room .size, room .page)) ∙
-        ap (λ l. l ++ (entry ∷ [])) so-far ∙
-        sym (map-append (λ (x : Move). entryOf (x .time) (x .target)) (r .row) (m ∷ [])) in
-        record {
-          row = r .row ++ (m ∷ []);
-          laid = laid-end p v from (k + 1) (rowFor (r .row ++ (m ∷ []))) station (r .laid .begins) (omega arith)
-              (omega arith) (set layout k entry) (length-set layout k entry ∙ room .size)
-              (begin-kept layout k entry v (λ e. omega (arith, room .from))) stands;
-          ends = omega (arith, end-moved);
-          split = r .split ∙ sym (append-assoc (r .row) (m ∷ []) rest);
-        }
-
-    pub kept-at-move : {u : ℕ} {moves rest : List Move} → u < 2048 → u ≢ v → Row layout p u k moves rest
-        → Row (movedAt layout v k m) p u (k + 1) moves rest
-    kept-at-move {u} h other r =
-        let once = laid-behind layout p u entry (rowFor (r .row)) (r .laid) h k (omega (arith, room .from)) (r .ends) in
-        record {
-          row = r .row;
-          laid = laid-other-end (set layout k entry) p u (k + 1) (rowFor (r .row)) once h v station other;
-          ends = rw (
-            end-kept (set layout k entry) (2048 + v) (k + 1) u (λ e. other (omega arith)),
-            end-kept layout k entry u (λ e. omega (arith, room .from)),
-          ) (omega (arith, r .ends));
-          split = r .split;
-        }
-
 -- The rows of the other pages' stations: what is written is in the page's room, or the begin or the end of one of its
 -- stations.
-pub others-same : (directory : List ℕ) (p : ℕ) (layout : List ℕ) → OthersKept directory p layout layout
-others-same directory p layout = record { rows = λ u q row h on other l. l; ends = λ u h off. refl }
-
-module _ {directory before layout : List ℕ} {p : ℕ} (few : length directory ≤ 2048)
-    (o : OthersKept directory p before layout) where
-  others-room : (k x : ℕ) → 4096 + 51 * p ≤ k → k < 4096 + 51 * p + 51 → OthersKept directory p before (set layout k x)
-  others-room k x low high = record {
-    rows = λ u q row h on other l.
-        laid-other-page layout q u x row (o .rows u q row h on other l) (omega arith) p k other low high;
-    ends = λ u h off. end-kept layout k x u (λ e. omega arith) ∙ o .ends u h off;
-  }
-
-  module _ (v x : ℕ) (station : v < length directory) (on-page : getD directory v 0 ≡ p) where
-    other-station : (u : ℕ) → getD directory u 0 ≢ p → u ≢ v
-    other-station u off e = off (ap (λ w. getD directory w 0) e ∙ on-page)
-
-    others-begin : OthersKept directory p before (set layout v x)
-    others-begin = record {
-      rows = λ u q row h on other l.
-          laid-other-begin layout q u x row (o .rows u q row h on other l) (omega arith) v (omega arith)
-          (other-station u (λ e. other (sym on ∙ e)));
-      ends = λ u h off. end-kept layout v x u (λ e. omega arith) ∙ o .ends u h off;
+pub others-kept : {directory before layout : List ℕ} {p : ℕ} → length directory ≤ 2048
+    → OthersKept directory p before layout → (i x v end : ℕ) → v < length directory → getD directory v 0 ≡ p
+    → (i ≡ v) ⊎ ((4096 + 51 * p ≤ i) × (i < 4096 + 51 * p + 51))
+    → OthersKept directory p before (written layout i x v end)
+others-kept {directory} {layout = layout} {p} few o i x v end station on-page place =
+    let other : (u : ℕ) → getD directory u 0 ≢ p → u ≢ v = λ u off e. off (ap (λ w. getD directory w 0) e ∙ on-page) in
+    let off : (u : ℕ) → u < length directory → u ≢ v → (2048 + u ≢ i) × (u ≢ i) = λ u h apart.
+    ⊎-elim (λ e. omega arith) (λ e. omega arith) place in
+    record {
+      rows = λ u q row h on apart before-laid.
+          let own = other u (λ e. apart (sym on ∙ e)) in
+          let laid = o .rows u q row h on apart before-laid in
+          laid-other layout i x v end u own (off u h own .0) q row (omega arith) (omega arith) (off u h own .1)
+          (⊎-elim (λ e. omega arith) (λ e. omega arith) place) laid;
+      ends = λ u h apart.
+          end-other layout i x v end u (other u apart) (off u h (other u apart) .0) ∙ o .ends u h apart;
     }
-
-    others-end : OthersKept directory p before (set layout (2048 + v) x)
-    others-end = record {
-      rows = λ u q row h on other l.
-          laid-other-end layout q u x row (o .rows u q row h on other l) (omega arith) v (omega arith)
-          (other-station u (λ e. other (sym on ∙ e)));
-      ends = λ u h off. end-kept layout (2048 + v) x u (λ e. other-station u off (omega arith)) ∙ o .ends u h off;
-    }
-
-module _ {directory before layout : List ℕ} {p : ℕ} (few : length directory ≤ 2048)
-    (o : OthersKept directory p before layout) (v k : ℕ) (station : v < length directory)
-    (on-page : getD directory v 0 ≡ p) where
-  pub others-at-begin : OthersKept directory p before (begunAt layout v k)
-  others-at-begin = others-end few (others-begin few o v k station on-page) v k station on-page
-
-  pub others-at-move : (m : Move) → 4096 + 51 * p ≤ k → k < 4096 + 51 * p + 51
-      → OthersKept directory p before (movedAt layout v k m)
-  others-at-move m low high =
-      others-end few (others-room few o k (entryOf (m .time) (m .target)) low high) v (k + 1) station on-page

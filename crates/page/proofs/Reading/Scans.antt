@@ -1,18 +1,12 @@
--- One step of each scan over bytes: a part of a slice, the first station on a page, the first byte not below a limit,
--- and whether all is zero. Each definition goes by the list's front, so that a step is one `drop-cons`.
-use Rattle.common.proofs.Ground.{_≡_, refl, Bool, true, false, dite, List, [], ℕ, zero, _+_, _≤_, _<_, arith}
-use Rattle.common.proofs.Ground.{ℕ-discrete, add-one, add-zero, add-suc, suc-add, length, getD, drop, length-drop}
-use Rattle.common.proofs.Ground.{drop-of-length-le, drop-cons, take-all, take-nil, eqb, eq-eqb, ne-eqb, lt-ltb, le-ltb}
+-- One step of each scan over bytes: whether all is zero, and the first byte not below a limit. Each definition goes by
+-- the list's front, so that a step is one `drop-cons`.
+use Rattle.common.proofs.Ground.{_≡_, sym, Bool, false, dite, List, ℕ, _+_, _≤_, _<_, arith, ℕ-discrete, add-one}
+use Rattle.common.proofs.Ground.{add-zero, add-suc, suc-add, length, getD, drop, drop-of-length-le, drop-cons, eqb}
+use Rattle.common.proofs.Ground.{eq-eqb, ne-eqb, lt-ltb, le-ltb}
+use Rattle.common.proofs.Cases.{by-pick}
 use Rattle.common.specs.Pick.{pick}
-use Rattle.page.specs.Bytes.{part, allZero}
+use Rattle.page.specs.Bytes.{allZero}
 use Rattle.page.specs.Image.{firstNotBelow}
-
-module _ (s : List ℕ) (from count : ℕ) where
-  pub part-past : length s ≤ from → part s from count ≡ []
-  part-past h = rw (drop-of-length-le s h) (take-nil count)
-
-  pub part-rest : length s ≤ from + count → part s from count ≡ drop from s
-  part-rest h = take-all count (drop from s) (omega (arith, length-drop from s))
 
 -- Whether a sum of bytes is 0 and all bytes from i on are.
 abbrev pub zeroWith : List ℕ → ℕ → ℕ → Bool
@@ -27,15 +21,11 @@ module _ (s : List ℕ) (sum i : ℕ) where
       (λ none.
       let e : sum + getD s i 0 ≡ getD s i 0 = omega arith in
       simp (drop-cons s i 0 h, eq-eqb sum 0 none, e, add-one))
-      (λ some. simp (ne-eqb sum 0 some, ne-eqb (sum + getD s i 0) 0 (λ e. some (omega arith))))
+      (λ some. simp (ne-eqb sum 0 some, ne-eqb (sum + getD s i 0) 0 (omega arith)))
 
   pub zero-end : length s ≤ i → zeroWith s sum i ≡ eqb sum 0
   unfolding allZero
-  zero-end h = rw (drop-of-length-le s h) (by-test (eqb sum 0))
-    where
-      by-test : (b : Bool) → pick b true false ≡ b
-      by-test true = refl
-      by-test false = refl
+  zero-end h = rw (drop-of-length-le s h) (by-pick (λ b. b ≡ eqb sum 0) (eqb sum 0) sym sym)
 
 -- The station found by a scan from i on, where the scan is still to do.
 abbrev pub notBelowFrom : List ℕ → ℕ → ℕ → ℕ

@@ -5,13 +5,18 @@ use Rattle.page.proofs.bytes.word_at.Tie as tie
 
 returns : tie.Need-returns
 returns c =
-    let s = now (c .before .before .args .s) in
-    let at = c .before .before .args .at in
-    let low = List·getD-eq-default s 0 {n = at} (c .if1 .taken) in
-    let high = List·getD-eq-default s 0 {n = at + 1} (omega arith) in
+    let a = c .before .before .args in
+    let low = List·getD-eq-default (now (a .s)) 0 {n = a .at} (omega arith) in
+    let high = List·getD-eq-default (now (a .s)) 0 {n = a .at + 1} (omega arith) in
     omega arith
 
 pub word-at-spec : {M : Type 1} → statement M
 word-at-spec =
     tie.close
-    (tie.spec returns (λ c κs. search needs) (λ c. search needs) (λ c κs. search needs) (λ c κs. search needs) (λ c. search needs))
+    (tie.spec
+    returns
+    (λ c κs. search needs)
+    (λ c. search needs)
+    (λ c κs. search needs)
+    (λ c κs. search needs)
+    (λ c. search needs))

@@ -3,8 +3,5 @@ use Rattle.common.proofs.Ground.{refl, needs}
 use Rattle.page.proofs.commands.length_of.Statement.{statement}
 use Rattle.page.proofs.commands.length_of.Tie as tie
 
-returns : tie.Need-returns
-returns c = refl
-
 pub length-of-spec : {M : Type 1} → statement M
-length-of-spec = tie.close (tie.spec (λ c. search needs) (λ c. search needs) returns)
+length-of-spec = tie.close (tie.spec (λ c. search needs) (λ c. search needs) (λ c. refl))

@@ -1,37 +1,24 @@
 -- By the command that `command_at` finds: each arm judges it as the definition does, and a fault stays that fault. A
 -- missing station and the next one are told by the slot that is due (proofs/Reading/Due.antt).
-use Rattle.common.proofs.Ground.{_≡_, refl, _∙_, ap, ℕ, arith, length, drop, now, needs}
+use Rattle.common.proofs.Ground.{_≡_, refl, sym, _∙_, ap, arith, length, drop, now, needs}
 use Rattle.page.specs.declared.Command.{Command}
 use Rattle.page.specs.Reading.{nextOn, judgeEnd, judge, judgedAt}
-use Rattle.page.proofs.Reading.Judging.{judged-as}
 use Rattle.page.proofs.Reading.Due.{judged-end-by-slot}
 use Rattle.page.proofs.reader.judged_at.Statement.{statement}
 use Rattle.page.proofs.reader.judged_at.Tie as tie
 
 -- The place where a command has been read: what it is judged to be is what the command at the offset is judged to be.
-module _ (read : tie.After-command-at) where
-  abbrev start : tie.Start
-  start = read .before .before .before .before
+abbrev start : tie.After-command-at → tie.Start
+start read = read .before .before .before .before
 
-  abbrev size : ℕ
-  size = length (now (start .args .directory))
-
-  abbrev next : ℕ
-  next = nextOn (now (start .args .directory)) (start .args .p) (start .args .after)
-
-  read-judged : (x answer : Command) → read .command-at .result ≡ x
-      → let a = start .args in
-      answer ≡ judge size next (a .after) (a .least) (drop (a .at) (now (a .page))) x
-      → answer ≡ judgedAt (now (a .page)) (a .at) size next (a .after) (a .least)
-  read-judged x answer e judged =
-      let a = start .args in
-      let law = judged-as (now (a .page)) (a .at) size next (a .after) (a .least) in
-      law (read .command-at .result) x answer (read .command-at .ensures) e judged
-
-first-slot-requires : tie.Need-first-slot-requires
-first-slot-requires c κs =
-    let entry = start (c .before .before) in
-    omega (arith, entry .pre .0 .size, entry .fits .p)
+read-judged : (read : tie.After-command-at) (x answer : Command) → read .command-at .result ≡ x
+    → let a = start read .args in
+    let size = length (now (a .directory)) in
+    let next = nextOn (now (a .directory)) (a .p) (a .after) in
+    answer ≡ judge size next (a .after) (a .least) (drop (a .at) (now (a .page))) x
+    → answer ≡ judgedAt (now (a .page)) (a .at) size next (a .after) (a .least)
+unfolding judgedAt
+read-judged read x answer e judged = judged ∙ ap (judge _ _ _ _ _) (sym e ∙ read .command-at .ensures)
 
 returns : tie.Need-returns
 unfolding judge
@@ -67,7 +54,7 @@ judged-at-spec =
     (λ c κs. search needs)
     (λ c. search needs)
     (λ c. search needs)
-    first-slot-requires
+    (λ c κs. search needs)
     (λ c κs. search needs)
     (λ c. search needs)
     (λ c κs. search needs)

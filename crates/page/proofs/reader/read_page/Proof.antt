@@ -3,12 +3,9 @@
 -- the function was lent, so that it keeps progress over any layout of before.
 use Rattle.common.proofs.Ground.{_≡_, ap, sym, _∙_, List, ℕ, _+_, _-_, _≤_, arith, length, now, needs}
 use Rattle.common.proofs.Cases.{never}
-use Rattle.page.specs.declared.Command.{Command}
-use Rattle.page.specs.Reading.{nextOn, judgedAt}
 use Rattle.page.specs.Check.{verdictOf}
 use Rattle.page.proofs.Reading.Progress.{Progress, progress-start, MoveFits, move-fits, progress-move}
-use Rattle.page.proofs.Reading.Progress.{StationFits, station-fits, progress-station}
-use Rattle.page.proofs.Reading.Progress.{end-good, end-laid, fault-bad}
+use Rattle.page.proofs.Reading.Progress.{StationFits, station-fits, progress-station, decided, end-laid}
 use Rattle.page.proofs.reader.read_page.Statement.{statement}
 use Rattle.page.proofs.reader.read_page.Tie as tie
 
@@ -29,73 +26,50 @@ abbrev μ-page : tie.MeasureT-page
 μ-page directory places p page layout₀ due₀ at₀ after₀ least₀ number₀ k₀ layout due at after least number k =
     length page - at
 
--- The place of the inner loop, and the one behind `judged_at`, where the arms of the match begin.
-module _ (loop : tie.At-loop Inv-loop μ-loop Inv-page μ-page) where
-  abbrev start : tie.Start Inv-loop μ-loop Inv-page μ-page
-  start = loop .before .before .before .before .before .before .before
+-- The place of the inner loop, and the arms of a move and of a station: each fits.
+abbrev start : tie.At-loop Inv-loop μ-loop Inv-page μ-page → tie.Start Inv-loop μ-loop Inv-page μ-page
+start loop = loop .before .before .before .before .before .before .before
 
-  abbrev directory : List ℕ
-  directory = now (start .args .directory)
+progress : (loop : tie.At-loop Inv-loop μ-loop Inv-page μ-page)
+    → let a = start loop .args in
+    Progress (now (a .directory)) (now (a .places)) (a .p) (now (a .page)) (now (a .layout)) (loop .loop .layout)
+    (loop .before .page .due) (loop .loop .at) (loop .before .page .after) (loop .loop .least) (loop .loop .k)
+progress loop = loop .loop .inv .1 _ (loop .before .page .inv)
 
-  abbrev page : List ℕ
-  page = now (start .args .page)
-
-  abbrev after : ℕ
-  after = loop .before .page .after
-
-  progress : Progress directory (now (start .args .places)) (start .args .p) page (now (start .args .layout))
-      (loop .loop .layout) (loop .before .page .due) (loop .loop .at) after (loop .loop .least) (loop .loop .k)
-  progress = loop .loop .inv .1 _ (loop .before .page .inv)
-
-found : (j : tie.After-judged-at Inv-loop μ-loop Inv-page μ-page) (x : Command) → j .judged-at .result ≡ x
-    → let loop = j .before in
-    judgedAt (page loop) (loop .loop .at) (length (directory loop))
-    (nextOn (directory loop) (start loop .args .p) (after loop)) (after loop) (loop .loop .least) ≡ x
-found j x e = sym (j .judged-at .ensures) ∙ e
-
--- The arms of a move and of a station: each fits.
 move-here : (arm : tie.After-m Inv-loop μ-loop Inv-page μ-page)
     → let loop = arm .before .before .before in
-    MoveFits (directory loop) (start loop .args .p) (page loop) (loop .loop .at) (after loop) (loop .loop .k)
-move-here arm = let j = arm .before .before in move-fits (progress (j .before)) (found j _ (arm .m .given .1))
+    let a = start loop .args in
+    MoveFits (now (a .directory)) (a .p) (now (a .page)) (loop .loop .at) (loop .before .page .after) (loop .loop .k)
+move-here arm =
+    let j = arm .before .before in
+    move-fits (progress (j .before)) (sym (j .judged-at .ensures) ∙ arm .m .given .1)
 
 station-here : (arm : tie.After-v Inv-loop μ-loop Inv-page μ-page)
     → let loop = arm .before .before .before in
-    StationFits (directory loop) (now (start loop .args .places)) (start loop .args .p) (page loop)
-    (loop .before .page .due) (loop .loop .at) (after loop) (loop .loop .k) (arm .v .given .0 .0)
-station-here arm = let j = arm .before .before in station-fits (progress (j .before)) (found j _ (arm .v .given .1))
-
-first-slot-requires : tie.Need-first-slot-requires Inv-loop μ-loop Inv-page μ-page
-first-slot-requires c κs =
-    let start = c .before .before .before .before in
-    omega (arith, start .pre .0 .size, start .fits .p)
+    let a = start loop .args in
+    StationFits (now (a .directory)) (now (a .places)) (a .p) (now (a .page)) (loop .before .page .due) (loop .loop .at)
+    (loop .before .page .after) (loop .loop .k) (arm .v .given .0 .0)
+station-here arm =
+    let j = arm .before .before in
+    station-fits (progress (j .before)) (sym (j .judged-at .ensures) ∙ arm .v .given .1)
 
 page-holds : tie.Need-page-holds Inv-loop μ-loop Inv-page μ-page
 page-holds c =
-    let start = c .before .before .before .before .before in
-    progress-start (start .pre .0) (omega (arith, start .fits .p)) (start .pre .1 .0) (start .pre .1 .1)
-    (c .first-slot .ensures)
-
-loop-holds : tie.Need-loop-holds Inv-loop μ-loop Inv-page μ-page
-loop-holds c = (omega arith, λ before l. l)
+    let pre = c .before .before .before .before .before .pre in
+    progress-start (pre .0) (omega arith) (pre .1 .0) (pre .1 .1) (c .first-slot .ensures)
 
 judged-at-requires : tie.Need-judged-at-requires Inv-loop μ-loop Inv-page μ-page
-judged-at-requires c κs = let l = progress c in (l .placed, (l .short, l .due-slot))
-
-sub-lay-move : tie.Need-sub-lay-move Inv-loop μ-loop Inv-page μ-page
-sub-lay-move c = move-here (c .before .before) .begun
+judged-at-requires c κs = let l = progress c in (l .placed, (l .enough .short, l .due-slot))
 
 lay-move-requires : tie.Need-lay-move-requires Inv-loop μ-loop Inv-page μ-page
 lay-move-requires c κs =
     let arm = c .before .before in
-    let fits = move-here arm in
-    let room = progress (arm .before .before .before) .room in
-    (omega (arith, fits .small), (omega (arith, fits .room, room .page), omega (arith, fits .room, room .page)))
+    omega (arith, move-here arm, progress (arm .before .before .before) .enough .room)
 
 add-at : tie.Need-add-at Inv-loop μ-loop Inv-page μ-page
 add-at c =
     let arm = c .before .before .before .before .before .before .before in
-    omega (arith, c .length-of .ensures, move-here arm .ends, progress (arm .before .before .before) .short)
+    omega (arith, c .length-of .ensures, move-here arm .ends, progress (arm .before .before .before) .enough .short)
 
 loop-less : tie.Need-loop-less Inv-loop μ-loop Inv-page μ-page
 loop-less c =
@@ -108,39 +82,37 @@ loop-again c =
     let arm = c .before .before .before .before .before .before .before in
     let j = arm .before .before in
     let loop = j .before .loop in
-    let next = ap (λ n. loop .at + n) (c .length-of .ensures) in (
-      omega (arith, loop .inv .0),
-      λ before l. progress-move (loop .inv .1 before l) (found j _ (arm .m .given .1)) (laid .1) next (laid .0),
-    )
+    let e = sym (j .judged-at .ensures) ∙ arm .m .given .1 in
+    let next = ap (λ n. loop .at + n) (c .length-of .ensures) in
+    (omega (arith, loop .inv .0), λ before l. progress-move (loop .inv .1 before l) e (laid .1) next (laid .0))
 
-same-length : tie.Need-same-length Inv-loop μ-loop Inv-page μ-page
-same-length c = let loop = c .before .before .before in progress loop .room .size ∙ sym (start loop .pre .1 .1)
+same-length : (loop : tie.At-loop Inv-loop μ-loop Inv-page μ-page)
+    → length (loop .loop .layout) ≡ length (now (start loop .args .layout))
+same-length loop = progress loop .enough .room .size ∙ sym (start loop .pre .1 .1)
 
 returns : tie.Need-returns Inv-loop μ-loop Inv-page μ-page
 returns c =
     let j = c .before .before in
     let l = progress (j .before) in
-    let e = found j _ (c .enum-told .given .1) in
-    (end-good l e, (end-laid l e, l .others))
+    let e = sym (j .judged-at .ensures) ∙ c .enum-told .given .1 in
+    (decided l e, (end-laid l e, l .others))
 
 begin-row-requires : tie.Need-begin-row-requires Inv-loop μ-loop Inv-page μ-page
 begin-row-requires c κs =
     let arm = c .before .before in
-    let fits = station-here arm in
-    let room = progress (arm .before .before .before) .room in
-    (omega (arith, fits .small), omega (arith, fits .room, room .page))
+    omega (arith, station-here arm .small, station-here arm .room, progress (arm .before .before .before) .enough .room)
 
 add-due : tie.Need-add-due Inv-loop μ-loop Inv-page μ-page
 add-due c =
     let loop = c .before .before .before .before .before .before .before .before in
     let l = progress loop in
-    let most = l .placed .most (start loop .args .p + 1) (omega (arith, l .room .page)) in
+    let most = l .placed .most (start loop .args .p + 1) (omega (arith, l .enough .room .page)) in
     omega (arith, l .due-slot .high, l .placed .few)
 
 add-at-2 : tie.Need-add-at-2 Inv-loop μ-loop Inv-page μ-page
 add-at-2 c =
     let arm = c .before .before .before .before .before .before in
-    omega (arith, c .length-of2 .ensures, station-here arm .ends, progress (arm .before .before .before) .short)
+    omega (arith, c .length-of2 .ensures, station-here arm .ends, progress (arm .before .before .before) .enough .short)
 
 page-less : tie.Need-page-less Inv-loop μ-loop Inv-page μ-page
 page-less c =
@@ -151,19 +123,15 @@ page-again : tie.Need-page-again Inv-loop μ-loop Inv-page μ-page
 page-again c =
     let arm = c .before .before .before .before .before .before in
     let j = arm .before .before in
-    progress-station (progress (j .before)) (found j _ (arm .v .given .1))
-    (c .before .before .before .begin-row .ensures) (ap (λ n. j .before .loop .at + n) (c .length-of2 .ensures))
-
-same-length-2 : tie.Need-same-length-2 Inv-loop μ-loop Inv-page μ-page
-same-length-2 c =
-    let loop = c .before .before .before .before in
-    progress loop .room .size ∙ sym (start loop .pre .1 .1)
+    let e = sym (j .judged-at .ensures) ∙ arm .v .given .1 in
+    progress-station (progress (j .before)) e (c .before .before .before .begin-row .ensures)
+    (ap (λ n. j .before .loop .at + n) (c .length-of2 .ensures))
 
 returns-2 : tie.Need-returns-2 Inv-loop μ-loop Inv-page μ-page
 returns-2 c =
     let j = c .before .before .before in
     let l = progress (j .before) in
-    let bad = fault-bad l (found j _ (c .before .fault .given .1)) in
+    let bad = decided l (sym (j .judged-at .ensures) ∙ c .before .fault .given .1) in
     (bad, ((λ moves stations e. never (let z = bad ∙ ap verdictOf e in cc)), l .others))
 
 pub read-page-spec : {M : Type 1} → statement M
@@ -174,14 +142,14 @@ read-page-spec =
     μ-loop
     Inv-page
     μ-page
-    first-slot-requires
+    (λ c κs. search needs)
     (λ c. search needs)
     (λ c. search needs)
     page-holds
-    loop-holds
+    (λ c. (omega arith, λ before l. l))
     judged-at-requires
     (λ c. search needs)
-    sub-lay-move
+    (λ c. move-here (c .before .before) .begun)
     lay-move-requires
     (λ c. search needs)
     (λ c. search needs)
@@ -192,7 +160,7 @@ read-page-spec =
     (λ c. search needs)
     (λ c. search needs)
     (λ c. search needs)
-    same-length
+    (λ c. same-length (c .before .before .before))
     returns
     (λ c. search needs)
     begin-row-requires
@@ -202,5 +170,5 @@ read-page-spec =
     add-at-2
     page-less
     page-again
-    same-length-2
+    (λ c. same-length (c .before .before .before .before))
     returns-2)

@@ -1,17 +1,13 @@
 -- The directory and the page that the reader is handed are the image's.
-use Rattle.common.proofs.Ground.{_≡_, sym, subst, now, needs}
-use Rattle.layout.specs.Places.{Placed}
+use Rattle.common.proofs.Ground.{needs}
 use Rattle.page.specs.Check.{readingOf}
 use Rattle.page.proofs.whole.read_page_of.Statement.{statement}
 use Rattle.page.proofs.whole.read_page_of.Tie as tie
 
 read-page-requires : tie.Need-read-page-requires
 read-page-requires c κs =
-    let start = c .before .before .before .before .before .before in (
-      subst (λ d. Placed d (now (start .args .places))) (sym (c .before .before .directory-of .ensures))
-          (start .pre .0),
-      (c .before .page-of .ensures .1, start .pre .1),
-    )
+    let pre = c .before .before .before .before .before .before .pre in
+    (rw (c .before .before .directory-of .ensures) (pre .0), (c .before .page-of .ensures .1, pre .1))
 
 returns : tie.Need-returns
 unfolding readingOf
