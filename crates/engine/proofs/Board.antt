@@ -1,253 +1,207 @@
 -- A relaxed move on the working memory: the lesser of two cells is document 01's rule, the lesser of two keys makes the
--- lowered station wait, and no other station and no other page notices.
-use Rattle.common.proofs.Ground.{_≡_, refl, sym, _∙_, ap, subst, Bool, true, false, true≢false, _≢_, ⊎-elim, dite}
-use Rattle.common.proofs.Ground.{List, ℕ, _+_, _-_, _/_, _≤_, _<_, min, arith, ℕ-discrete, length, getD, set}
-use Rattle.common.proofs.Ground.{length-set, getD-set-same, getD-set-other, lt-ltb, le-ltb}
+-- lowered station wait, and no other station and no other page notices. And the other steps: a station stops waiting, a
+-- page is taken in hand, and it is left.
+use Rattle.common.proofs.Ground.{_≡_, refl, sym, _∙_, ap, Bool, true, false, _||_, not, _&&_, _≢_, ⊎-elim, dite, List}
+use Rattle.common.proofs.Ground.{ℕ, _+_, _-_, _/_, _≤_, _<_, min, arith, decLt, ℕ-discrete, length, getD, set, eqb, ltb}
+use Rattle.common.proofs.Ground.{getD-set-same, getD-set-other, ltb-true, ltb-false, lt-ltb, eq-eqb, ne-eqb}
 use Rattle.common.proofs.Cases.{le-or-lt}
 use Rattle.common.specs.Numbers.{nobody, noTime}
+use Rattle.common.specs.Pick.{pick}
+use Rattle.net.specs.Search.{State, timeOf, predOf, withPage}
+use Rattle.net.specs.Run.{waits, stopWaiting}
+use Rattle.net.proofs.Relaxing.Relax.{Relaxed as NetRelaxed, Kind, lowered, tied, kept}
+use Rattle.net.proofs.Steps.Waiting.{waits-listing}
 use Rattle.layout.specs.Places.{firstSlot, slotOf, pageAt, Placed}
 use Rattle.layout.proofs.Slots.{slot-below, slot-on-page, same-slot}
 use Rattle.queue.specs.Keys.{packed}
 use Rattle.queue.specs.Queue.{Put}
 use Rattle.queue.proofs.Least.{least-before, least-behind, least-lowered}
-use Rattle.relax.specs.Cells.{Memory, memory, loweredKey, Relaxed, withoutWaiting}
-use Rattle.relax.proofs.Rows.{relaxed-room}
-use Rattle.engine.specs.Board.{CellIs, keyIf, leastOn, Board}
+use Rattle.relax.specs.Cells.{Memory, memory, Relaxed, withoutWaiting, Placed as PlacedAt}
+use Rattle.relax.proofs.Rows.{relaxed-room, relaxed-cell, relaxed-other, relaxed-waits, relaxed-waits-other}
+use Rattle.relax.proofs.Rows.{room-waiting}
+use Rattle.engine.specs.Board.{CellIs, keyIf, leastOn, Serving, frameOf, Placing, Leaves, Board}
 
--- What a move from u to v by which v would cost `sum` does to v: its time and predecessor, and whether it waits.
-pub data Offer (u v sum : ℕ) (waits : ℕ → Bool) (time pred : ℕ → ℕ) (waits′ : ℕ → Bool) (time′ pred′ : ℕ → ℕ) : Type 0
-  where
-    lowered : sum < time v → time′ v ≡ sum → pred′ v ≡ u → waits′ v ≡ true
-        → Offer u v sum waits time pred waits′ time′ pred′
-    tied : sum ≡ time v → u < pred v → time′ v ≡ time v → pred′ v ≡ u → waits′ v ≡ waits v
-        → Offer u v sum waits time pred waits′ time′ pred′
-    kept : time v ≤ sum → (sum ≡ time v → pred v ≤ u) → time′ v ≡ time v → pred′ v ≡ pred v → waits′ v ≡ waits v
-        → Offer u v sum waits time pred waits′ time′ pred′
-
--- One station's cell.
+-- One station's cell, and the cost and predecessor that a move from u offers it.
 module _ {source v time pred cell : ℕ} (c : CellIs source v time pred cell) (u sum : ℕ) (from : u < 2048)
     (some : 0 < sum) (fits : sum < noTime) where
   -- its cost is its time, or above every sum
-  cost-above : sum < time → sum < cell / 2048
-  cost-above l = ⊎-elim
-      (λ none. omega (arith, c .untimed other none .2))
-      (λ has. omega (arith, c .timed other has .0, c .timed other has .1))
-      (le-or-lt noTime time)
-    where
-      other : v ≢ source
-      other e = omega (arith, c .own e .0)
+  cost-test : ltb sum (cell / 2048) ≡ ltb sum time
+  cost-test = dite (ℕ-discrete v source)
+      (λ e. rw (c .own e .0, c .own e .2))
+      (λ n. ⊎-elim
+      (λ none. rw (c .untimed n none .0, c .untimed n none .2) (lt-ltb sum _ (omega arith) ∙ sym (lt-ltb sum _ fits)))
+      (λ has. ap (ltb sum) (omega (arith, c .timed n has .0, c .timed n has .1)))
+      (le-or-lt noTime time))
 
-  cost-below : time ≤ sum → cell / 2048 ≤ sum
-  cost-below l = dite (ℕ-discrete v source)
-      (λ e. omega (arith, c .own e .2))
-      (λ n. omega (arith, c .timed n (omega arith) .0, c .timed n (omega arith) .1))
+  -- the lesser cell is the one offered, or has the time that there was
+  cell-lowered : sum < time → CellIs source v sum u (min cell (packed sum u))
+  cell-lowered l =
+      let above : sum < cell / 2048 = ltb-true _ _ (cost-test ∙ lt-ltb sum time l) in
+      record {
+        own = λ e. absurd (omega (arith, c .own e .0));
+        timed = λ n h. (from, omega arith);
+        untimed = λ n h. absurd (omega arith);
+      }
 
-  -- the cell that the move offers is taken where it is the lesser
-  pub cell-lowered : sum < time → CellIs source v sum u (min cell (packed sum u))
-  cell-lowered l = record {
-    own = λ e. absurd (omega (arith, c .own e .0));
-    timed = λ n h. (from, omega (arith, cost-above l));
+  cell-stays : {pred′ : ℕ} → time ≤ sum → (sum ≡ time → pred′ ≡ min pred u) → (time < sum → pred′ ≡ pred)
+      → CellIs source v time pred′ (min cell (packed sum u))
+  cell-stays le tie later = record {
+    own = λ e. (c .own e .0, later (omega (arith, c .own e .0)) ∙ c .own e .1, omega (arith, c .own e .2));
+    timed = λ n h.
+        let (low, is) = c .timed n h in
+        ⊎-elim (λ ge. (omega (arith, tie (omega arith)), omega (arith, tie (omega arith))))
+        (λ lt. (omega (arith, later lt), omega (arith, later lt))) (le-or-lt sum time);
     untimed = λ n h. absurd (omega arith);
   }
 
-  pub cell-tied : sum ≡ time → u < pred → CellIs source v time u (min cell (packed sum u))
-  cell-tied e l = record {
-    own = λ o. absurd (omega (arith, c .own o .0));
-    timed = λ n h. (from, omega (arith, c .timed n h .0, c .timed n h .1));
-    untimed = λ n h. absurd (omega arith);
+-- The lesser of a station's key and of the one that a sum offers, by whether the sum is less, and whether it waits.
+key-after : (less w : Bool) (sum time v : ℕ) {time′ : ℕ} → ltb sum time ≡ less → time′ ≡ min sum time → sum < noTime
+    → v < 2048 → min (keyIf w time v) (pick less (packed sum v) nobody) ≡ keyIf (less || w) time′ v
+key-after true true sum time v e is fits small = omega (arith, ltb-true sum time e)
+key-after true false sum time v e is fits small = omega (arith, ltb-true sum time e)
+key-after false true sum time v e is fits small = omega (arith, ltb-false sum time e)
+key-after false false sum time v e is fits small = omega arith
+
+-- The least keys of the pages, where one slot is written.
+module _ {q : Serving} {places : List ℕ} (placing : Placing q places) where
+  abbrev d : Placed (q .directory) places
+  d = placing .placed
+
+  -- A station of a placed directory has a slot and a page, and no other station has its slot.
+  pub placed-at : (v : ℕ) → v < length (q .directory) → PlacedAt places v
+  placed-at v h = record {
+    slot = slot-below _ _ d v h (placing .bytes v);
+    page = omega (arith, d .page v h, placing .bytes v);
   }
 
-  pub cell-kept : time ≤ sum → (sum ≡ time → pred ≤ u) → CellIs source v time pred (min cell (packed sum u))
-  cell-kept l t = record {
-    own = λ o. (c .own o .0, c .own o .1, omega (arith, c .own o .2));
-    timed = λ n h. (
-      c .timed n h .0,
-      ⊎-elim
-          (λ le. omega (arith, c .timed n h .0, c .timed n h .1, t (omega arith)))
-          (λ lt. omega (arith, c .timed n h .0, c .timed n h .1))
-          (le-or-lt sum time),
-    );
-    untimed = λ n h. absurd (omega arith);
-  }
+  pub other-slot : (x v : ℕ) → x < length (q .directory) → v < length (q .directory) → x ≢ v
+      → slotOf places x ≢ slotOf places v
+  other-slot x v h k n e = n (same-slot _ _ d x v h k (placing .bytes x) (placing .bytes v) e)
 
--- One station's key.
-key-most : (b : Bool) (time v : ℕ) → v < 2048 → (b ≡ true → time < noTime) → keyIf b time v ≤ nobody
-key-most true time v small h = omega (arith, h refl)
-key-most false time v small h = omega arith
-
-key-above : (b : Bool) (sum time v : ℕ) → v < 2048 → sum < time → sum < noTime
-    → min (keyIf b time v) (packed sum v) ≡ packed sum v
-key-above true sum time v small l h = omega arith
-key-above false sum time v small l h = omega arith
-
-module _ {source v time pred cell : ℕ} (c : CellIs source v time pred cell) (u sum : ℕ) (from : u < 2048)
-    (some : 0 < sum) (fits : sum < noTime) (small : v < 2048) (b : Bool) (has : b ≡ true → time < noTime) where
-  key-lowered : sum < time → min (keyIf b time v) (loweredKey cell sum v) ≡ packed sum v
-  key-lowered l = rw (lt-ltb sum (cell / 2048) (cost-above c u sum from some fits l))
-      (key-above b sum time v small l fits)
-
-  key-kept : time ≤ sum → min (keyIf b time v) (loweredKey cell sum v) ≡ keyIf b time v
-  key-kept l = rw (le-ltb sum (cell / 2048) (cost-below c u sum from some fits l))
-      (omega (arith, key-most b time v small has))
-
--- A slot of another page lies before or behind a page's slots.
-module _ {directory places : List ℕ} (d : Placed directory places) (bytes : (v : ℕ) → getD directory v 0 < 256) where
   pub page-end : (p : ℕ) → p < 256
       → firstSlot places p + (firstSlot places (p + 1) - firstSlot places p) ≡ firstSlot places (p + 1)
   page-end p h = omega (arith, d .onward p h)
 
   -- a key set in the slot of a station on another page does not change the least key of page p
-  pub least-elsewhere : (waiting : List ℕ) (v p x : ℕ) → p < 256 → v < length directory → getD directory v 0 ≢ p
-      → leastOn places (set waiting (slotOf places v) x) p ≡ leastOn places waiting p
-  least-elsewhere waiting v p x h small off = ⊎-elim
+  pub least-elsewhere : (waiting : List ℕ) (v p x : ℕ) → p < 256 → v < length (q .directory)
+      → getD (q .directory) v 0 ≢ p → leastOn places (set waiting (slotOf places v) x) p ≡ leastOn places waiting p
+  least-elsewhere waiting v p x h to off = dite (decLt (slotOf places v) (firstSlot places p))
+      (λ before. rw least-before)
       (λ low. ⊎-elim
-      (λ past. least-behind waiting (slotOf places v) x (firstSlot places p)
-      (firstSlot places (p + 1) - firstSlot places p) (omega (arith, page-end p h)))
-      (λ within. absurd (off (slot-on-page directory places d p v h small (bytes v) low within)))
+      (λ past. least-behind waiting _ x _ _ (rw (← (page-end p h)) at past))
+      (λ within. absurd (off (slot-on-page _ _ d p v h to (placing .bytes v) (omega arith) within)))
       (le-or-lt (firstSlot places (p + 1)) (slotOf places v)))
-      (λ before. least-before waiting (slotOf places v) x (firstSlot places p)
-      (firstSlot places (p + 1) - firstSlot places p) before)
-      (le-or-lt (firstSlot places p) (slotOf places v))
 
-  -- a key lowered in the slot of a station of page p lowers the least key of p
-  pub least-here : (waiting : List ℕ) (v p key : ℕ) → length waiting ≡ 2048 → p < 256 → v < length directory
-      → getD directory v 0 ≡ p
-      → leastOn places (set waiting (slotOf places v) (min (getD waiting (slotOf places v) 0) key)) p
-      ≡ min (leastOn places waiting p) key
-  least-here waiting v p key size h small on =
-      least-lowered waiting (slotOf places v) key (firstSlot places p) (firstSlot places (p + 1) - firstSlot places p)
-      (rw on at (d .from-first v small))
-      (rw (page-end p h) (rw on at (d .below-next v small)))
-      (omega (arith, page-end p h, d .most (p + 1) (omega arith), d .few))
+  -- a relaxed move leaves the least keys in the leaves
+  pub relaxed-leaves : {hand u v sum : ℕ} {m m′ : Memory} → v < length (q .directory) → length (m .waiting) ≡ 2048
+      → Relaxed places u v sum m m′ → Leaves places hand m → Leaves places hand m′
+  relaxed-leaves {v = v} {m = m} to size r leaf p h off = dite (ℕ-discrete (pageAt places v) p)
+      (λ on.
+      let here : getD (q .directory) v 0 ≡ p = sym (d .page v to) ∙ on in
+      let within : firstSlot places (p + 1) ≤ length (m .waiting) =
+      omega (arith, d .most (p + 1) (omega arith), d .few) in
+      let inside = rw (← (page-end p h)) at within in
+      let first = rw here at (d .from-first v to) in
+      let next = rw (here, ← (page-end p h)) at (d .below-next v to) in
+      rw (r .waits, least-lowered, ← (leaf p h off)) (rw on at (r .leaf .same)))
+      (λ n. r .leaf .other p h (λ e. n (sym e)) ∙ leaf p h off
+      ∙ sym (rw (r .waits) (least-elsewhere (m .waiting) v p _ h to (λ e. n (d .page v to ∙ e)))))
 
-  -- A relaxed move.
-  module _ {source hand : ℕ} {waits waits′ : ℕ → Bool} {time pred time′ pred′ : ℕ → ℕ} {m m′ : Memory}
-      (b : Board directory places source hand waits time pred m) (u v sum : ℕ) (from : u < 2048)
-      (to : v < length directory) (some : 0 < sum) (fits : sum < noTime)
-      (offer : Offer u v sum waits time pred waits′ time′ pred′)
-      (others : (x : ℕ) → x ≢ v → (time′ x ≡ time x) × (pred′ x ≡ pred x) × (waits′ x ≡ waits x))
+stopped-tables : (df : Bool) (u : ℕ) (s : State)
+    → ((stopWaiting df u s) .times ≡ s .times) × ((stopWaiting df u s) .preds ≡ s .preds)
+stopped-tables true u s = (refl, refl)
+stopped-tables false u s = (refl, refl)
+
+module _ {q : Serving} {places : List ℕ} {hand : ℕ} {s : State} {m : Memory} (b : Board q places hand s m) where
+  -- A relaxed move, of which the net says what it does to its target's time and predecessor, and who waits then.
+  module _ {u v sum : ℕ} {t : State} {m′ : Memory} (from : u < 2048) (to : v < length (q .directory)) (some : 0 < sum)
+      (fits : sum < noTime) (net : NetRelaxed (frameOf q) u v sum s t)
+      (wakes : (x : ℕ) → waits (q .df) (frameOf q) t x
+      ≡ ((eqb x v && ltb sum (timeOf (frameOf q) s x)) || waits (q .df) (frameOf q) s x))
       (r : Relaxed places u v sum m m′) where
-    abbrev slot : ℕ
-    slot = slotOf places v
+    abbrev time : ℕ
+    time = timeOf (frameOf q) s v
 
-    small : v < 2048
-    small = omega (arith, d .few)
-
-    in-waiting : slot < length (m .waiting)
-    in-waiting = omega (arith, slot-below directory places d v to (bytes v), b .room .waiting-size)
-
-    abbrev lesser-cell : ℕ
-    lesser-cell = min (getD (m .cells) v 0) (packed sum u)
-
-    abbrev offered-key : ℕ
-    offered-key = loweredKey (getD (m .cells) v 0) sum v
-
-    abbrev lesser-key : ℕ
-    lesser-key = min (getD (m .waiting) slot 0) offered-key
-
-    abbrev offered : Type 0
-    offered = CellIs source v (time′ v) (pred′ v) lesser-cell
-        × (lesser-key ≡ keyIf (waits′ v) (time′ v) v) × (waits′ v ≡ true → time′ v < noTime)
-
-    by-offer : Offer u v sum waits time pred waits′ time′ pred′ → offered
-    by-offer (lowered l et ep ew) = (
-      rw (et, ep) (cell-lowered (b .cell v to) u sum from some fits l),
-      rw (et, ew, b .key v to) (key-lowered (b .cell v to) u sum from some fits small (waits v) (b .timed v to) l),
-      λ e. rw et fits,
+    cell-after : Kind (frameOf q) u v sum s t → (timeOf (frameOf q) t v ≡ min sum time)
+        × CellIs (q .source) v (timeOf (frameOf q) t v) (predOf t v) (min (getD (m .cells) v 0) (packed sum u))
+    cell-after (lowered l et ep ef) =
+        (omega arith, rw (et, ep) (cell-lowered (b .station v to .0) u sum from some fits l))
+    cell-after (tied e l et ep ef) = (
+      omega arith,
+      rw (et, ep) (cell-stays (b .station v to .0) u sum from some fits (omega arith) (λ _. omega arith)
+          (λ lt. absurd (omega arith))),
     )
-    by-offer (tied e l et ep ew) = (
-      rw (et, ep) (cell-tied (b .cell v to) u sum from some fits e l),
-      rw (et, ew, b .key v to)
-          (key-kept (b .cell v to) u sum from some fits small (waits v) (b .timed v to) (omega arith)),
-      λ k. rw et (b .timed v to (sym ew ∙ k)),
-    )
-    by-offer (kept l t et ep ew) = (
-      rw (et, ep) (cell-kept (b .cell v to) u sum from some fits l t),
-      rw (et, ew, b .key v to) (key-kept (b .cell v to) u sum from some fits small (waits v) (b .timed v to) l),
-      λ k. rw et (b .timed v to (sym ew ∙ k)),
+    cell-after (kept l low same) = (
+      omega (arith, same .time),
+      rw (same .time, same .pred) (cell-stays (b .station v to .0) u sum from some fits l
+          (λ e. omega (arith, low e)) (λ _. refl)),
     )
 
-    pub relaxed-board : Board directory places source hand waits′ time′ pred′ m′
-    relaxed-board = record {
-      room = relaxed-room r (b .room);
-      cell = λ x h. dite (ℕ-discrete x v) (λ e. rw (e, r .cell, at-v) (by-offer offer .0)) (λ n.
-          rw (others x n .0, others x n .1, r .cell, getD-set-other (m .cells) v x _ 0 n) (b .cell x h));
-      key = λ x h. dite (ℕ-discrete x v) (λ e. rw (e, r .waits, at-slot) (by-offer offer .1)) (λ n.
-          rw (others x n .0, others x n .2, r .waits, at-other x h n) (b .key x h));
-      timed = λ x h. dite (ℕ-discrete x v) (λ e. rw e (by-offer offer .2)) (λ n.
-          rw (others x n .0, others x n .2) (b .timed x h));
-      leaf = λ p h off. dite (ℕ-discrete (getD directory v 0) p)
-          (λ on. here p h off on)
-          (λ n. r .leaf .other p h (λ e. n (sym (d .page v to) ∙ sym e)) ∙ b .leaf p h off
-          ∙ sym (rw (r .waits) (least-elsewhere (m .waiting) v p _ h to n)));
-    }
-      where
-        at-v : getD (set (m .cells) v lesser-cell) v 0 ≡ lesser-cell
-        at-v = getD-set-same (m .cells) v lesser-cell 0 (omega (arith, b .room .cells-size, small))
+    pub relaxed-board : Board q places hand t m′
+    relaxed-board =
+        let small : v < 2048 = omega (arith, b .placing .placed .few) in
+        let (time-is, cell-is) = cell-after (net .kind) in
+        record {
+          placing = b .placing;
+          room = relaxed-room r (b .room);
+          station = λ x h. dite (ℕ-discrete x v)
+              (λ e. rw (e, relaxed-cell r (b .room) small, relaxed-waits r (b .room) (placed-at (b .placing) v to)) (
+                cell-is,
+                rw (b .station v to .1, cost-test (b .station v to .0) u sum from some fits, wakes v, eq-eqb v v refl)
+                    (key-after (ltb sum time) _ sum time v refl time-is fits small),
+              ))
+              (λ n. rw (
+                relaxed-other r x n,
+                relaxed-waits-other r _ (other-slot (b .placing) x v h to n),
+                wakes x,
+                ne-eqb x v n,
+                net .others x n .time,
+                net .others x n .pred,
+              ) (b .station x h));
+          leaf = relaxed-leaves (b .placing) to (b .room .waiting-size) r (b .leaf);
+        }
 
-        at-slot : getD (set (m .waiting) slot lesser-key) slot 0 ≡ lesser-key
-        at-slot = getD-set-same (m .waiting) slot lesser-key 0 in-waiting
+  -- The page in hand is that of station u, which stops waiting.
+  pub stopped-board : {u : ℕ} → u < length (q .directory) → getD (q .directory) u 0 ≡ hand
+      → ((x : ℕ) → waits (q .df) (frameOf q) (stopWaiting (q .df) u s) x
+      ≡ (not (eqb x u) && waits (q .df) (frameOf q) s x))
+      → Board q places hand (stopWaiting (q .df) u s) (withoutWaiting places u m)
+  stopped-board {u} to on stops =
+      let (times, preds) = stopped-tables (q .df) u s in
+      let slot : slotOf places u < length (m .waiting) = omega (arith, placed-at (b .placing) u to, b .room) in
+      record {
+        placing = b .placing;
+        room = room-waiting _ _ (b .room);
+        station = λ x h. dite (ℕ-discrete x u)
+            (λ e. rw (e, stops u, eq-eqb u u refl, times, preds) (b .station u to .0, rw getD-set-same))
+            (λ n.
+            let other = other-slot (b .placing) x u h to n in
+            rw (stops x, ne-eqb x u n, times, preds, getD-set-other) (b .station x h));
+        leaf = λ p h off. b .leaf p h off
+            ∙ sym (least-elsewhere (b .placing) (m .waiting) u p nobody h to (λ e. off (sym e ∙ on)));
+      }
 
-        at-other : (x : ℕ) → x < length directory → x ≢ v
-            → getD (set (m .waiting) slot lesser-key) (slotOf places x) 0 ≡ getD (m .waiting) (slotOf places x) 0
-        at-other x h n = getD-set-other (m .waiting) slot (slotOf places x) lesser-key 0
-            (λ e. n (same-slot directory places d x v h to (bytes x) (bytes v) e))
-
-        here : (p : ℕ) → p < 256 → p ≢ hand → getD directory v 0 ≡ p
-            → getD (m′ .queue) p 0 ≡ leastOn places (m′ .waiting) p
-        here p h off on =
-            let page : pageAt places v ≡ p = d .page v to ∙ on in
-            subst (λ q. getD (m′ .queue) q 0 ≡ min (getD (m .queue) q 0) offered-key) page (r .leaf .same)
-            ∙ ap (λ k. min k offered-key) (b .leaf p h off)
-            ∙ sym (rw (r .waits) (least-here (m .waiting) v p _ (b .room .waiting-size) h to on))
-
-  -- Station u, of the page in hand, stops waiting.
-  pub stopped-board : {source : ℕ} {waits waits′ : ℕ → Bool} {time pred : ℕ → ℕ} {m : Memory} (u : ℕ)
-      → Board directory places source (getD directory u 0) waits time pred m → u < length directory
-      → waits′ u ≡ false → ((x : ℕ) → x ≢ u → waits′ x ≡ waits x)
-      → Board directory places source (getD directory u 0) waits′ time pred (withoutWaiting places u m)
-  stopped-board {waits′ = waits′} {time = time} {m = m} u b small own others = record {
-    room = record {
-      places-size = b .room .places-size;
-      cells-size = b .room .cells-size;
-      waiting-size = length-set (m .waiting) (slotOf places u) nobody ∙ b .room .waiting-size;
-      groups = b .room .groups;
-    };
-    cell = b .cell;
-    key = λ x h. dite (ℕ-discrete x u)
-        (λ e. rw (e, own) (getD-set-same (m .waiting) (slotOf places u) nobody 0
-        (omega (arith, slot-below directory places d u small (bytes u), b .room .waiting-size))))
-        (λ n. rw (others x n) (getD-set-other (m .waiting) (slotOf places u) (slotOf places x) nobody 0
-        (λ e. n (same-slot directory places d x u h small (bytes x) (bytes u) e)) ∙ b .key x h));
-    timed = λ x h. dite (ℕ-discrete x u) (λ e. rw (e, own) (λ k. absurd (true≢false (sym k))))
-        (λ n. rw (others x n) (b .timed x h));
-    leaf = λ p h off. b .leaf p h off ∙ sym (least-elsewhere (m .waiting) u p nobody h small (λ e. off (sym e)));
-  }
-
-  -- A page is taken in hand, and its leaf may be anything; and it is left, with its least key in its leaf.
-  pub taken-board : {source : ℕ} {waits : ℕ → Bool} {time pred : ℕ → ℕ} {m : Memory} (p : ℕ)
-      → Board directory places source 256 waits time pred m → Board directory places source p waits time pred m
-  taken-board p b = record {
-    room = b .room;
-    cell = b .cell;
-    key = b .key;
-    timed = b .timed;
-    leaf = λ q h off. b .leaf q h (λ e. omega arith);
-  }
-
-  pub left-board : {source : ℕ} {waits : ℕ → Bool} {time pred : ℕ → ℕ} {cells waiting queue queue′ : List ℕ} (p : ℕ)
-      → p < 256 → Board directory places source p waits time pred (memory cells waiting queue)
-      → Put queue p (leastOn places waiting p) queue′
-      → Board directory places source 256 waits time pred (memory cells waiting queue′)
-  left-board p l b put = record {
+  -- A page is left, with its least key in its leaf.
+  pub left-board : {queue : List ℕ} → hand < 256 → Put (m .queue) hand (leastOn places (m .waiting) hand) queue
+      → Board q places 256 s (memory (m .cells) (m .waiting) queue)
+  left-board l put = record {
+    placing = b .placing;
     room = record {
       places-size = b .room .places-size;
       cells-size = b .room .cells-size;
       waiting-size = b .room .waiting-size;
       groups = put .groups;
     };
-    cell = b .cell;
-    key = b .key;
-    timed = b .timed;
-    leaf = λ q h off. dite (ℕ-discrete q p) (λ e. rw e (put .same)) (λ n. put .other q h n ∙ b .leaf q h n);
+    station = b .station;
+    leaf = λ p h off. dite (ℕ-discrete p hand) (λ e. rw e (put .same)) (λ n. put .other p h n ∙ b .leaf p h n);
   }
+
+-- A page is listed and taken in hand; its leaf may be anything then.
+pub taken-board : {q : Serving} {places : List ℕ} {s : State} {m : Memory} (p : ℕ) → Board q places 256 s m
+    → Board q places p (withPage p s) m
+taken-board {q} {s = s} p b = record {
+  placing = b .placing;
+  room = b .room;
+  station = λ v h. rw (waits-listing (frameOf q) s _ _ (q .df) v) (b .station v h);
+  leaf = λ x h off. b .leaf x h (λ e. omega arith);
+}

@@ -1,6 +1,5 @@
 pub mod Board
 pub mod Choosing
-pub mod Visiting
 pub mod Turning
 pub mod Soundness
 pub mod Fetching

@@ -1,122 +1,102 @@
 -- One reference on an image. The least key of all names the first station that waits, or nobody does. A good page's
 -- rows are the moves that the net's page offers, so that it can be taken in hand; a bad one ends the search.
-use Rattle.common.proofs.Ground.{_≡_, refl, sym, _∙_, ap, subst, Bool, true, false, List, [], _∷_, _++_, map, ℕ, suc}
-use Rattle.common.proofs.Ground.{_%_, _≤_, _<_, add-one, length, getD, take, lt-ltb, le-ltb}
+use Rattle.common.proofs.Ground.{_≡_, refl, sym, _∙_, ap, Bool, List, [], _∷_, map, ℕ, suc, _%_, _≤_, _<_, arith}
+use Rattle.common.proofs.Ground.{length, getD, set, take, lt-ltb, le-ltb}
 use Rattle.common.specs.Numbers.{nobody}
-use Rattle.common.proofs.Cases.{never}
 use Rattle.net.specs.declared.Choice.the-variants.{Station, Nobody}
-use Rattle.net.specs.Net.{good, bad}
-use Rattle.net.specs.Search.{refused}
-use Rattle.net.specs.Run.{turnLimit, firstAt, firstWaiting}
+use Rattle.net.specs.Net.{Move as NetMove}
+use Rattle.net.specs.Search.{refused, withPage}
+use Rattle.net.specs.Run.{turnLimit, firstWaiting}
 use Rattle.net.proofs.Steps.Waiting.{first-lowest}
-use Rattle.net.proofs.Runs.{reference-inside, reference-listed, reference-bad}
+use Rattle.net.proofs.Runs.{reference-inside, reference-listed, reference-bad, hand-begins}
 use Rattle.page.specs.declared.Move.{Move}
-use Rattle.page.specs.Bytes.{Bytes}
-use Rattle.page.specs.declared.Verdict.the-variants.{Bad}
-use Rattle.page.specs.Image.{stationCount, directoryOf, headingCheck, accepted}
-use Rattle.page.specs.Reading.{Reading, movesOf, good as read-good, bad as read-bad}
+use Rattle.page.specs.Reading.{movesOf, bad}
 use Rattle.page.specs.Laying.{rowFor}
-use Rattle.page.proofs.Parts.{bytes-part}
-use Rattle.page.specs.Check.{readingOf, verdictOf}
-use Rattle.layout.specs.Places.{Placed}
-use Rattle.layout.specs.Rows.{entryOf, Laid}
+use Rattle.page.specs.Check.{readingOf}
+use Rattle.layout.specs.Places.{pageAt}
+use Rattle.layout.specs.Rows.{entryOf}
 use Rattle.queue.specs.Keys.{leastIn}
 use Rattle.relax.specs.Cells.{Memory}
-use Rattle.engine.specs.Board.{leastOn, chosen}
-use Rattle.engine.specs.Map.{frame, netMove, offered, mapPage}
-use Rattle.engine.specs.Hand.{Serving, stateAfter, Stands, Placing, rowsOf, Hand}
-use Rattle.engine.specs.Standing.{turnsFor, PageKnown, Known, serving}
-use Rattle.engine.proofs.Choosing.{chosen-of-all, top-on-page}
-use Rattle.engine.proofs.Soundness.{image-sound}
+use Rattle.engine.specs.Board.{leastOn, chosen, Serving, frameOf}
+use Rattle.engine.specs.Map.{mapFrame, netMove, offered, mapPage}
+use Rattle.engine.specs.Hand.{stateAfter, Stands, rowsOf, Hand}
+use Rattle.engine.specs.Standing.{PageKnown, Known, serving, Lists}
+use Rattle.engine.proofs.Board.{taken-board}
+use Rattle.engine.proofs.Choosing.{first-of-all, top-on-page}
+
+-- The station u to which the net's run refers next, and its page p.
+pub record Next (q : Serving) (k : ℕ) (places : List ℕ) (m : Memory) (key u p : ℕ) : Type 0 where
+  pub stands : Stands q k places m
+  pub first : firstWaiting (q .df) (frameOf q) (stateAfter q k) ≡ Station u
+  pub inside : u < length (q .directory)
+  pub on : getD (q .directory) u 0 ≡ p
+  pub below : p < 256
+  pub count : k < length (q .directory)
+  pub least : key ≡ leastOn places (m .waiting) p
+
+-- With the memory standing for the state after k references, by the least key of all.
+module _ {q : Serving} {k key : ℕ} {places : List ℕ} {m : Memory} (s : Stands q k places m)
+    (is : key ≡ leastIn (take 256 (m .queue))) where
+  first-is : firstWaiting (q .df) (frameOf q) (stateAfter q k) ≡ chosen key
+  first-is = first-of-all (s .board) (s .going) ∙ ap chosen (sym is)
+
+  pub nobody-first : nobody ≤ key → firstWaiting (q .df) (frameOf q) (stateAfter q k) ≡ Nobody
+  nobody-first h = first-is ∙ simp (le-ltb key nobody h)
+
+  pub next-station : key < nobody → {u p : ℕ} → u ≡ key % 2048 → p ≡ pageAt places u → Next q k places m key u p
+  next-station somebody {u} {p} named paged =
+      let first : firstWaiting (q .df) (frameOf q) (stateAfter q k) ≡ Station u =
+      rw named (first-is ∙ simp (lt-ltb key nobody somebody)) in
+      let inside = first-lowest (q .df) (frameOf q) (stateAfter q k) u first .1 .inside in
+      let on = sym (paged ∙ s .board .placing .placed .page u inside) in
+      record {
+        stands = s;
+        first = first;
+        inside = inside;
+        on = on;
+        below = omega (arith, s .board .placing .bytes u);
+        count = reference-inside (s .board .placing .sound) (q .df) k first;
+        least = sym (rw (← is, ← named, on) at (top-on-page (s .board) (rw is at somebody)));
+      }
 
 -- The rows of a page's moves are those of the net's.
 same-rows : (moves : List Move) → rowFor moves ≡ rowsOf (map netMove moves)
 same-rows [] = refl
 same-rows (m ∷ moves) = ap (λ rest. entryOf (m .time) (m .target) ∷ rest) (same-rows moves)
 
-turns-same : (df : Bool) (directory : List ℕ) → turnsFor df (length directory) ≡ turnLimit df (frame directory)
-turns-same true directory = add-one (length directory)
-turns-same false directory = refl
-
--- With the memory standing for the state after k references, by the least key of all.
-module _ {q : Serving} {k : ℕ} {places : List ℕ} {m : Memory} (placing : Placing q places) (s : Stands q k places m)
-    {key : ℕ} (is : key ≡ leastIn (take 256 (m .queue))) where
-  first-is : firstWaiting (q .df) (frame (q .directory)) (stateAfter q k) ≡ chosen key
-  unfolding firstWaiting
-  first-is = ap (λ h. firstAt (q .df) (frame (q .directory)) h (stateAfter q k)) (s .going)
-      ∙ chosen-of-all (placing .placed) (placing .bytes) (s .board) ∙ ap chosen (sym is)
-
-  pub nobody-first : nobody ≤ key → firstWaiting (q .df) (frame (q .directory)) (stateAfter q k) ≡ Nobody
-  nobody-first h = first-is ∙ simp (le-ltb key nobody h)
-
-  module _ (somebody : key < nobody) where
-    pub station-first : firstWaiting (q .df) (frame (q .directory)) (stateAfter q k) ≡ Station (key % 2048)
-    station-first = first-is ∙ simp (lt-ltb key nobody somebody)
-
-    pub station-inside : key % 2048 < length (q .directory)
-    station-inside = first-lowest (q .df) (frame (q .directory)) (stateAfter q k) (key % 2048) station-first .1 .inside
-
-    pub count-inside : k < length (q .directory)
-    count-inside = reference-inside (placing .sound) (q .df) k station-first
-
-    pub least-of-page : key ≡ leastOn places (m .waiting) (getD (q .directory) (key % 2048) 0)
-    least-of-page = sym (subst (λ x. leastOn places (m .waiting) (getD (q .directory) (x % 2048) 0) ≡ x) (sym is)
-        (top-on-page (placing .placed) (placing .bytes) (s .board) (subst (λ x. x < nobody) is somebody)))
-
-    -- its page is the one that is listed next
-    pub listed-next : {p : ℕ} → p ≡ getD (q .directory) (key % 2048) 0
-        → (stateAfter q (suc k)) .pages ≡ (stateAfter q k) .pages ++ (p ∷ [])
-    listed-next on = reference-listed (placing .sound) (q .df) k station-first
-        ∙ ap (λ x. (stateAfter q k) .pages ++ (x ∷ [])) (sym on)
-
--- On an image: its net is sound, and its stations are placed.
-pub placing-image : (df : Bool) (image : List ℕ) (source : ℕ) → Bytes image → headingCheck image ≡ accepted
-    → source < length (directoryOf image) → {places : List ℕ} → Placed (directoryOf image) places
-    → Placing (serving df image source) places
-unfolding directoryOf
-placing-image df image source bytes formed inside placed = record {
-  sound = image-sound image bytes formed source inside;
-  placed = placed;
-  bytes = bytes-part image 4 (stationCount image) bytes;
+-- Its page is listed; a good one is taken in hand, and a bad one ends the search.
+pub lists : {q : Serving} {k key u p : ℕ} {places : List ℕ} {m : Memory} → Next q k places m key u p → {before : List ℕ}
+    → Lists q k p before (set before k p)
+lists {q} {k} n = record {
+  inside = n .count;
+  pages = rw (n .on) at (reference-listed (n .stands .board .placing .sound) (q .df) k (n .first));
+  list = refl;
 }
 
--- A bad verdict is that of a bad reading.
-bad-reading : (number offset : ℕ) (r : Reading) → Bad number offset ≡ verdictOf r → r ≡ read-bad number offset
-bad-reading number offset (read-good moves stations) e = never cc
-bad-reading number offset (read-bad n o) e = cc
-
--- Page p, to which the least key of all leads.
-module _ (df : Bool) (image : List ℕ) (source : ℕ) {places : List ℕ} {k : ℕ} {m : Memory}
-    (placing : Placing (serving df image source) places) (s : Stands (serving df image source) k places m)
-    {key : ℕ} (is : key ≡ leastIn (take 256 (m .queue))) (somebody : key < nobody) {p : ℕ}
-    (on : p ≡ getD (directoryOf image) (key % 2048) 0) where
-  abbrev page : ℕ
-  page = getD (directoryOf image) (key % 2048) 0
-
-  -- a good page
-  pub hand-image : {layout : List ℕ} {turns : ℕ} → Known image layout → PageKnown image page layout
-      → turns ≡ turnsFor df (length (directoryOf image)) → Hand (serving df image source) k p turns key places layout m
+module _ {df : Bool} (image : List ℕ) {source k key u p : ℕ} {places : List ℕ} {m : Memory}
+    (n : Next (serving df image source) k places m key u p) where
+  pub hand-image : {layout : List ℕ} {turns : ℕ} → Known image layout × PageKnown image p layout
+      → turns ≡ turnLimit df (mapFrame image) → Hand (serving df image source) k p places layout turns key m
   unfolding mapPage
-  hand-image {layout} {turns} known laid limit =
-      subst (λ x. Hand (serving df image source) k x turns key places layout m) (sym on) (record {
-        placing = placing;
-        moves = λ u. map netMove (movesOf (laid .stations) u);
-        first = station-first placing s is somebody;
-        on = refl;
-        content = ap offered (laid .reads);
+  hand-image {layout} (known, laid) limit =
+      let moves : ℕ → List NetMove = λ v. map netMove (movesOf (laid .stations) v) in
+      record {
+        moves = moves;
+        turns = 0;
+        state = withPage p (stateAfter (serving df image source) k);
+        in-hand = rw (n .on) at (hand-begins (n .stands .board .placing .sound) df k (n .first) moves
+            (rw (n .on) (ap offered (laid .reads))));
+        count = omega arith;
         size = known .size;
-        rows = λ v h at. subst (Laid layout page v) (same-rows (movesOf (laid .stations) v)) (laid .laid v h at);
-        limit = limit ∙ turns-same df (directoryOf image);
-        stands = s;
-        least = least-of-page placing s is somebody;
-      })
+        page = n .below;
+        rows = λ v h at. rw same-rows at (laid .laid v h at);
+        board = taken-board p (n .stands .board);
+        key = n .least;
+      }
 
-  -- a bad one
-  pub refused-image : {number offset : ℕ} → Bad number offset ≡ verdictOf (readingOf image page)
+  pub refused-image : {number offset : ℕ} → readingOf image p ≡ bad number offset
       → (stateAfter (serving df image source) (suc k)) .halt ≡ refused number p offset
   unfolding mapPage
   refused-image {number} {offset} e =
-      let bad = ap offered (bad-reading number offset (readingOf image page) e) in
-      let first = station-first placing s is somebody in
-      ap (λ t. t .halt) (reference-bad (placing .sound) df k first number offset bad)
-      ∙ ap (λ x. refused number x offset) (sym on)
+      rw (n .on) at (ap (λ t. t .halt) (reference-bad (n .stands .board .placing .sound) df k (n .first) number offset
+      (rw (n .on) (ap offered e))))

@@ -1,126 +1,162 @@
--- The page loop: it starts with the page's first station, each turn visits the station of least key, and it ends where
--- the turns are made or nobody waits on the page, which is the state after one reference more.
-use Rattle.common.proofs.Ground.{_≡_, sym, _∙_, ap, subst, Bool, true, false, _⊎_, inl, inr, List, ℕ, suc, _+_, _-_}
-use Rattle.common.proofs.Ground.{_%_, _≤_, _<_, arith, getD, take, drop, lt-ltb, le-ltb}
+-- The page loop. Each turn visits the station of least key: it stops waiting, and its row is relaxed move by move, as
+-- the net relaxes its moves. The loop ends where the turns are made or nobody waits on the page, which is the state
+-- after one reference more.
+use Rattle.common.proofs.Ground.{_≡_, refl, sym, _∙_, ap, _⊎_, inl, inr, dite, List, [], _∷_, _++_, append-assoc}
+use Rattle.common.proofs.Ground.{append-nil, List·Memᴰ·head, Memᴰ·append-right, ℕ, suc, _+_, _-_, _/_, _%_, _≤_, _<_}
+use Rattle.common.proofs.Ground.{arith, ℕ-discrete, length, getD, take, drop, ltb, lt-ltb, le-ltb}
 use Rattle.common.specs.Numbers.{nobody}
 use Rattle.net.specs.declared.Choice.the-variants.{Station}
-use Rattle.net.specs.Net.{Move, Frame, good}
-use Rattle.net.specs.Search.{State, going, withPage, timeOf, predOf}
-use Rattle.net.specs.Run.{waits, firstOn, turnLimit, visitOf, InHand}
+use Rattle.net.specs.Net.{Move, Frame, Goes}
+use Rattle.net.specs.Search.{State, timeOf, relax, relaxAll}
+use Rattle.net.specs.Run.{stopWaiting, firstOn, turnLimit, visitOf}
 use Rattle.net.proofs.Sound.{Sound}
-use Rattle.net.proofs.Runs.{hand-begins, hand-turn, hand-made, hand-stops, hand-going, visit-inside, visit-on}
+use Rattle.net.proofs.Relaxing.Relax.{relax-relaxed, relaxAll-last}
+use Rattle.net.proofs.Runs.{visit-move, visit-time, visit-standing, visit-on, visit-inside, visit-stops, visit-timed}
+use Rattle.net.proofs.Runs.{hand-turn, hand-made, hand-stops, hand-going}
 use Rattle.layout.specs.Places.{firstSlot, Placed}
-use Rattle.layout.specs.Rows.{Laid}
+use Rattle.layout.specs.Rows.{entryOf, Laid}
 use Rattle.queue.specs.Keys.{leastIn}
 use Rattle.queue.specs.Queue.{Put}
-use Rattle.relax.specs.Cells.{Memory, memory, Visited}
-use Rattle.engine.specs.Board.{Board, leastOn, chosen}
-use Rattle.engine.specs.Map.{frame}
-use Rattle.engine.specs.Hand.{Serving, stateAfter, BoardOf, Stands, rowsOf, Hand}
-use Rattle.engine.proofs.Board.{taken-board, left-board}
-use Rattle.engine.proofs.Choosing.{chosen-on}
-use Rattle.engine.proofs.Visiting.{VisitAsks, visit-asks, turn-board}
+use Rattle.relax.specs.Cells.{Memory, memory, Room, Relaxed, Relaxing, none, more, Visited, LaidOut, Targets, longest}
+use Rattle.relax.specs.Cells.{noCost, Placed as PlacedAt}
+use Rattle.engine.specs.Board.{chosen, Serving, frameOf, Board}
+use Rattle.engine.specs.Hand.{stateAfter, Stands, rowsOf, Hand}
+use Rattle.engine.proofs.Board.{placed-at, relaxed-board, stopped-board, left-board}
+use Rattle.engine.proofs.Choosing.{first-on}
 
--- After some turns: the state that the memory stands for, and the least key of the page.
-pub record Turned (q : Serving) (k p : ℕ) (moves : ℕ → List Move) (left least : ℕ) (places : List ℕ) (m : Memory)
-    : Type 0 where
-  pub turns : ℕ
-  pub state : State
-  pub in-hand : InHand (q .df) (frame (q .directory)) (q .page) (q .source) k p moves turns state
-  pub count : turns + left ≡ turnLimit (q .df) (frame (q .directory))
-  pub board : BoardOf q places p state m
-  pub key : least ≡ leastOn places (m .waiting) p
-
-module _ {q : Serving} {k p turns key : ℕ} {places layout : List ℕ} {m₀ : Memory}
-    (hand : Hand q k p turns key places layout m₀) where
+module _ {q : Serving} {k p left least : ℕ} {places layout : List ℕ} {m : Memory}
+    (h : Hand q k p places layout left least m) where
   abbrev F : Frame
-  F = frame (q .directory)
+  F = frameOf q
 
   abbrev d : Placed (q .directory) places
-  d = hand .placing .placed
-
-  abbrev bytes : (v : ℕ) → getD (q .directory) v 0 < 256
-  bytes = hand .placing .bytes
+  d = h .board .placing .placed
 
   abbrev ok : Sound F (q .page) (q .source)
-  ok = hand .placing .sound
+  ok = h .board .placing .sound
 
-  listed-board : (df : Bool) (s : State)
-      → Board (q .directory) places (q .source) p (waits df F s) (timeOf F s) (predOf s) m₀
-      → Board (q .directory) places (q .source) p (waits df F (withPage p s)) (timeOf F (withPage p s))
-      (predOf (withPage p s)) m₀
-  listed-board true s b = b
-  listed-board false s b = b
+  first-is : firstOn (q .df) F p (h .state) ≡ chosen least
+  first-is = first-on (h .board) p (h .page) ∙ ap chosen (sym (h .key))
 
-  pub page-below : p < 256
-  page-below = subst (λ x. x < 256) (hand .on) (bytes (key % 2048))
+  -- Another turn.
+  module _ (again : 0 < left) (somebody : least < nobody) where
+    abbrev x : ℕ
+    x = least % 2048
 
-  pub slots-ordered : firstSlot places p ≤ firstSlot places (p + 1)
-  slots-ordered = d .onward p page-below
+    abbrev time : ℕ
+    time = timeOf F (h .state) x
 
-  pub slots-inside : firstSlot places (p + 1) ≤ 2048
-  slots-inside = omega (arith, d .most (p + 1) (omega (arith, page-below)), d .few)
+    abbrev stopped : State
+    stopped = stopWaiting (q .df) x (h .state)
 
-  pub turned-start : Turned q k p (hand .moves) turns key places m₀
-  turned-start = record {
-    turns = 0;
-    state = withPage p (stateAfter q k);
-    in-hand = subst
-        (λ x. InHand (q .df) F (q .page) (q .source) k x (hand .moves) 0 (withPage x (stateAfter q k))) (hand .on)
-        (hand-begins ok (q .df) k (hand .first) (hand .moves)
-        (subst (λ x. q .page x ≡ good (hand .moves)) (sym (hand .on)) (hand .content)));
-    count = omega (arith, hand .limit);
-    board = listed-board (q .df) (stateAfter q k) (taken-board d bytes p (hand .stands .board));
-    key = hand .least;
-  }
+    first-x : firstOn (q .df) F p (h .state) ≡ Station x
+    first-x = first-is ∙ simp (lt-ltb least nobody somebody)
 
-  module _ {left least : ℕ} {m : Memory} (t : Turned q k p (hand .moves) left least places m) where
-    first-is : firstOn (q .df) F p (t .state) ≡ chosen least
-    unfolding firstOn
-    first-is = chosen-on d bytes (t .board) p page-below ∙ ap chosen (sym (t .key))
+    turns-more : h .turns < turnLimit (q .df) F
+    turns-more = omega (arith, h .count)
 
-    -- another turn
-    module _ (more : 0 < left) (somebody : least < nobody) where
-      abbrev x : ℕ
-      x = least % 2048
+    inside : x < length (q .directory)
+    inside = visit-inside ok (h .in-hand) first-x
 
-      first-x : firstOn (q .df) F p (t .state) ≡ Station x
-      first-x = first-is ∙ simp (lt-ltb least nobody somebody)
+    on : getD (q .directory) x 0 ≡ p
+    on = visit-on ok (h .in-hand) first-x
 
-      turns-more : t .turns < turnLimit (q .df) F
-      turns-more = omega (arith, t .count)
+    laid : Laid layout p x (rowsOf (h .moves x))
+    laid = h .rows x inside on
 
-      row : Laid layout p x (rowsOf (hand .moves x))
-      row = hand .rows x (visit-inside ok (t .in-hand) first-x) (visit-on ok (t .in-hand) first-x)
+    cost : getD (m .cells) x 0 / 2048 ≡ time
+    cost =
+        let c = h .board .station x inside .0 in
+        let timed = visit-timed ok (h .in-hand) first-x in
+        dite (ℕ-discrete x (q .source)) (λ e. omega (arith, c .own e .0, c .own e .2))
+        (λ n. omega (arith, c .timed n timed .0, c .timed n timed .1))
 
-      pub turn-asks : VisitAsks x places layout m
-      turn-asks = visit-asks d bytes ok (q .df) (t .in-hand) turns-more x first-x (t .board) row (hand .size)
+    -- a move of its row, of which those before are relaxed
+    module _ (before rest : List Move) (next : Move) (split : h .moves x ≡ before ++ (next ∷ rest)) where
+      abbrev part : State
+      part = relaxAll F ltb x before stopped
 
-      -- what a visit of that station leaves, and the least key found then
-      pub turned-more : {after : Memory} {u lo hi key′ : ℕ} → u ≡ x → Visited places layout u m after
-          → lo ≡ firstSlot places p → hi ≡ firstSlot places (p + 1)
-          → key′ ≡ leastIn (take (hi - lo) (drop lo (after .waiting)))
-          → Turned q k p (hand .moves) (left - 1) key′ places after
-      turned-more {after} e visited low high found = record {
-        turns = suc (t .turns);
-        state = visitOf (q .df) F (hand .moves) x (t .state);
-        in-hand = hand-turn ok (t .in-hand) first-x turns-more;
-        count = omega (arith, t .count);
-        board = turn-board d bytes ok (q .df) (t .in-hand) turns-more x first-x (t .board) row
-            (subst (λ v. Visited places layout v m after) e visited);
-        key = found ∙ rw (low, high);
+      leads : next .target < length (q .directory)
+      leads = visit-move ok (h .in-hand) first-x turns-more before rest next split .target
+
+      target : entryOf (next .weight) (next .target) % 2048 ≡ next .target
+      target = omega (arith, leads, d .few)
+
+      move-board : {a b : Memory} → Board q places p part a
+          → Relaxed places x (entryOf (next .weight) (next .target) % 2048)
+          (time + entryOf (next .weight) (next .target) / 2048) a b
+          → Board q places p (relax F ltb x next part) b
+      move-board board r =
+          let n = visit-move ok (h .in-hand) first-x turns-more before rest next split in
+          let same = visit-time ok (h .in-hand) first-x turns-more before (next ∷ rest) split in
+          let standing = visit-standing ok (h .in-hand) first-x turns-more before (next ∷ rest) split in
+          let net = rw same at (relax-relaxed F x next part (standing .sizes) leads) in
+          let goes : Goes F (q .page) x (next .target) (next .weight) =
+          rw (on, h .in-hand .content, split) (Memᴰ·append-right before (List·Memᴰ·head refl)) in
+          let weight : entryOf (next .weight) (next .target) / 2048 ≡ next .weight = omega (arith, leads, d .few) in
+          relaxed-board board (omega arith) leads
+          (omega (arith, ok .moves x (next .target) (next .weight) goes .0)) (n .sum-below) net (n .wakes)
+          (rw (target, weight) at r)
+
+    visit-board : (before rest : List Move) → h .moves x ≡ before ++ rest → {a b : Memory}
+        → Board q places p (relaxAll F ltb x before stopped) a → Relaxing places x time (rowsOf rest) a b
+        → Board q places p (relaxAll F ltb x (h .moves x) stopped) b
+    visit-board before [] split board none = rw (split, append-nil) board
+    visit-board before (next ∷ rest) split board (more r relaxing) =
+        visit-board (before ++ (next ∷ [])) rest (split ∙ sym (append-assoc before (next ∷ []) rest))
+        (rw relaxAll-last (move-board before rest next split board r)) relaxing
+
+    targets : (before rest : List Move) → h .moves x ≡ before ++ rest → Targets places (rowsOf rest)
+    targets before [] split = tt
+    targets before (next ∷ rest) split = (
+      rw (target before rest next split) (placed-at (h .board .placing) (next .target) (leads before rest next split)),
+      targets (before ++ (next ∷ [])) rest (split ∙ sym (append-assoc before (next ∷ []) rest)),
+    )
+
+    -- What the visit asks, and what it leaves.
+    pub turn-asks : (x < 2048) × ((getD (m .cells) x 0 / 2048 + longest < noCost)
+        × (Room places m × (PlacedAt places x × LaidOut places layout x)))
+    turn-asks =
+        let timed = visit-timed ok (h .in-hand) first-x in
+        let costs = cost in
+        let placed = placed-at (h .board .placing) x inside in
+        let row : LaidOut places layout x = record {
+          size = h .size;
+          within = omega (arith, laid .ends, h .page);
+          targets = rw (laid .entries) (targets [] (h .moves x) refl);
+        } in
+        (omega (arith, inside, d .few), (omega arith, (h .board .room, (placed, row))))
+
+    pub turned : {after : Memory} {u lo hi least′ : ℕ} → u ≡ x → Visited places layout u m after
+        → lo ≡ firstSlot places p → hi ≡ firstSlot places (p + 1)
+        → least′ ≡ leastIn (take (hi - lo) (drop lo (after .waiting)))
+        → Hand q k p places layout (left - 1) least′ after
+    unfolding visitOf relaxAll
+    turned e visited low high found = record {
+      moves = h .moves;
+      turns = suc (h .turns);
+      state = visitOf (q .df) F (h .moves) x (h .state);
+      in-hand = hand-turn ok (h .in-hand) first-x turns-more;
+      count = omega (arith, h .count);
+      size = h .size;
+      page = h .page;
+      rows = h .rows;
+      board = visit-board [] (h .moves x) refl
+          (stopped-board (h .board) inside on (visit-stops ok (h .in-hand) first-x))
+          (rw (e, cost, laid .entries) at (visited .relaxing));
+      key = found ∙ rw (low, high);
+    }
+
+  -- No turn is left, or nobody waits.
+  pub over : {queue : List ℕ} → (left ≡ 0) ⊎ (nobody ≤ least) → Put (m .queue) p least queue
+      → Stands q (suc k) places (memory (m .cells) (m .waiting) queue)
+  over {queue} e put =
+      let same = reached e in
+      record {
+        going = rw same at (hand-going ok (h .in-hand));
+        board = rw same at (left-board (h .board) (h .page) (rw (h .key) at put));
       }
-
-    -- no turn is left, or nobody waits
-    over : (left ≡ 0) ⊎ (nobody ≤ least) → t .state ≡ stateAfter q (suc k)
-    over (inl e) = hand-made ok (t .in-hand) (omega (arith, t .count))
-    over (inr e) = hand-stops ok (t .in-hand) (first-is ∙ simp (le-ltb least nobody e))
-
-  pub turned-end : {left least : ℕ} {cells waiting queue queue′ : List ℕ}
-      → Turned q k p (hand .moves) left least places (memory cells waiting queue) → (left ≡ 0) ⊎ (nobody ≤ least)
-      → Put queue p least queue′ → Stands q (suc k) places (memory cells waiting queue′)
-  turned-end {cells = cells} {waiting = waiting} {queue = queue} {queue′ = queue′} t e put = record {
-    going = subst (λ s. s .halt ≡ going) (over t e) (hand-going ok (t .in-hand));
-    board = subst (λ s. BoardOf q places 256 s (memory cells waiting queue′)) (over t e)
-        (left-board d bytes p page-below (t .board) (subst (λ x. Put queue p x queue′) (t .key) put));
-  }
+    where
+      reached : (left ≡ 0) ⊎ (nobody ≤ least) → h .state ≡ stateAfter q (suc k)
+      reached (inl none-left) = hand-made ok (h .in-hand) (omega (arith, h .count))
+      reached (inr nobody-left) = hand-stops ok (h .in-hand) (first-is ∙ simp (le-ltb least nobody nobody-left))

@@ -1,5 +1,4 @@
--- How the engine's working memory stands for a state of the net's searches, given by each station's time and
--- predecessor and by who waits.
+-- How the engine's working memory stands for a state of the net's searches, with a page in hand or none.
 use mathlib.Core.Path.{_≡_}
 use mathlib.Core.Logic.{_≢_}
 use mathlib.Core.Bool.{Bool, true, false}
@@ -11,9 +10,14 @@ use Rattle.common.specs.Numbers.{noTime, sourceMark, noPred, nobody}
 use Rattle.common.specs.Pick.{pick}
 use Rattle.net.specs.declared.Choice.{Choice}
 use Rattle.net.specs.declared.Choice.the-variants.{Station, Nobody}
-use Rattle.layout.specs.Places.{firstSlot, slotOf}
+use Rattle.net.specs.Net.{Page, Frame}
+use Rattle.net.specs.Search.{State, timeOf, predOf}
+use Rattle.net.specs.Run.{waits}
+use Rattle.net.proofs.Sound.{Sound}
+use Rattle.layout.specs.Places.{firstSlot, slotOf, Placed}
 use Rattle.queue.specs.Keys.{packed, leastFrom}
 use Rattle.relax.specs.Cells.{Memory, Room}
+use Rattle.engine.specs.Map.{frame}
 
 -- The cell of station v: the source's is 0, nobody's where v has no time, and otherwise time and predecessor.
 pub record CellIs (source v time pred cell : ℕ) : Type 0 where
@@ -26,19 +30,43 @@ abbrev pub keyIf : Bool → ℕ → ℕ → ℕ
 keyIf true time v = packed time v
 keyIf false time v = nobody
 
--- The least key of those that wait on page p.
+-- The least key of those that wait on page p, and the station that a least key names.
 abbrev pub leastOn : List ℕ → List ℕ → ℕ → ℕ
 leastOn places waiting p = leastFrom waiting (firstSlot places p) (firstSlot places (p + 1) - firstSlot places p)
 
--- The memory as a whole. The leaf of the page in hand may be anything; 256 stands for no page.
-pub record Board (directory places : List ℕ) (source hand : ℕ) (waits : ℕ → Bool) (time pred : ℕ → ℕ) (m : Memory)
-    : Type 0 where
-  pub room : Room places m
-  pub cell : (v : ℕ) → v < length directory → CellIs source v (time v) (pred v) (getD (m .cells) v 0)
-  pub key : (v : ℕ) → v < length directory → getD (m .waiting) (slotOf places v) 0 ≡ keyIf (waits v) (time v) v
-  pub timed : (v : ℕ) → v < length directory → waits v ≡ true → time v < noTime
-  pub leaf : (p : ℕ) → p < 256 → p ≢ hand → getD (m .queue) p 0 ≡ leastOn places (m .waiting) p
-
--- The station that a least key names.
 abbrev pub chosen : ℕ → Choice
 chosen key = pick (ltb key nobody) (Station (key % 2048)) Nobody
+
+-- Which search: DF or plain, the directory of its map, what its pages offer, and its source.
+pub record Serving : Type 0 where
+  pub df : Bool
+  pub directory : List ℕ
+  pub page : ℕ → Page
+  pub source : ℕ
+
+abbrev pub frameOf : Serving → Frame
+frameOf q = frame (q .directory)
+
+-- The net's search is sound, and its stations are placed.
+pub record Placing (q : Serving) (places : List ℕ) : Type 0 where
+  pub sound : Sound (frameOf q) (q .page) (q .source)
+  pub placed : Placed (q .directory) places
+  pub bytes : (v : ℕ) → getD (q .directory) v 0 < 256
+
+-- In state s station v has its cell, and its key in its slot.
+abbrev pub StationIs : Serving → List ℕ → State → Memory → ℕ → Type 0
+StationIs q places s m v =
+    CellIs (q .source) v (timeOf (frameOf q) s v) (predOf s v) (getD (m .cells) v 0) ×
+    (getD (m .waiting) (slotOf places v) 0 ≡ keyIf (waits (q .df) (frameOf q) s v) (timeOf (frameOf q) s v) v)
+
+-- Each page's leaf holds the least key of those that wait there. That of the page in hand may be anything; 256 stands
+-- for no page.
+abbrev pub Leaves : List ℕ → ℕ → Memory → Type 0
+Leaves places hand m = (p : ℕ) → p < 256 → p ≢ hand → getD (m .queue) p 0 ≡ leastOn places (m .waiting) p
+
+-- The memory stands for state s, with such a page in hand.
+pub record Board (q : Serving) (places : List ℕ) (hand : ℕ) (s : State) (m : Memory) : Type 0 where
+  pub placing : Placing q places
+  pub room : Room places m
+  pub station : (v : ℕ) → v < length (q .directory) → StationIs q places s m v
+  pub leaf : Leaves places hand m

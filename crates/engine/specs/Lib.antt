@@ -1,5 +1,5 @@
-pub mod Board
 pub mod Map
+pub mod Board
 pub mod Hand
 pub mod Standing
 pub mod Ending

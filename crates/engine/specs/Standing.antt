@@ -1,10 +1,10 @@
--- How the engine stands between references: what it has laid out of the pages read so far, and its working memory as
--- the state of the net's run.
+-- How the engine stands between references: what it has laid out of the pages read so far, its working memory as the
+-- state of the net's run, and what one reference more comes to.
 use mathlib.Core.Path.{_≡_}
-use mathlib.Core.Bool.{Bool, true, false}
+use mathlib.Core.Bool.{Bool}
 use mathlib.Core.List.{List, [], _∷_, _++_}
-use Prim.Native.Nat.{ℕ, suc, _+_, _≤_, _<_}
-use lib.ListN.{length, getD, set, take, drop}
+use Prim.Native.Nat.{ℕ, suc, _≤_, _<_}
+use lib.ListN.{length, getD, set}
 use Rattle.net.specs.declared.Choice.the-variants.{Nobody}
 use Rattle.net.specs.Search.{refused}
 use Rattle.net.specs.Run.{firstWaiting}
@@ -12,22 +12,17 @@ use Rattle.page.specs.declared.Move.{Move}
 use Rattle.page.specs.declared.Verdict.{Verdict}
 use Rattle.page.specs.declared.Verdict.the-variants.{Good, Bad}
 use Rattle.page.specs.Image.{directoryOf, headingCheck, accepted}
-use Rattle.page.specs.Reading.{Leaving, good}
+use Rattle.page.specs.Reading.{Leaving, good, bad}
 use Rattle.page.specs.Check.{readingOf}
-use Rattle.layout.specs.Places.{Placed}
 use Rattle.page.specs.Laying.{PageLaid}
 use Rattle.layout.specs.Rows.{endOf}
 use Rattle.relax.specs.Cells.{Memory}
 use Rattle.engine.specs.declared.Reference.{Reference}
 use Rattle.engine.specs.declared.Reference.the-variants.{NobodyWaits, Made}
 use Rattle.engine.specs.declared.Reference.the-variants.{Bad as BadReference}
-use Rattle.engine.specs.Map.{frame, mapPage}
-use Rattle.engine.specs.Hand.{Serving, stateAfter, Stands}
-
--- The turns that a page in hand gets, on a map of n stations (net, `turnLimit`).
-abbrev pub turnsFor : Bool → ℕ → ℕ
-turnsFor true n = n + 1
-turnsFor false n = 1
+use Rattle.engine.specs.Map.{mapPage}
+use Rattle.engine.specs.Board.{Serving, frameOf}
+use Rattle.engine.specs.Hand.{stateAfter, Stands}
 
 -- Page p is good, and the rows of its stations are laid out.
 pub record PageKnown (image : List ℕ) (p : ℕ) (layout : List ℕ) : Type 0 where
@@ -42,34 +37,37 @@ pub record Known (image layout : List ℕ) : Type 0 where
   pub page : (v : ℕ) → v < length (directoryOf image) → 0 < endOf layout v
       → PageKnown image (getD (directoryOf image) v 0) layout
 
--- After page p was fetched: where it is good, it is known.
+-- After page p was fetched: it is known, or reads as bad.
 abbrev pub Fetched : List ℕ → ℕ → List ℕ → Verdict → Type 0
 Fetched image p layout Good = Known image layout × PageKnown image p layout
-Fetched image p layout (Bad number offset) = length layout ≡ 17152
+Fetched image p layout (Bad number offset) = readingOf image p ≡ bad number offset
 
 -- A search on an image, with the one comparison.
 abbrev pub serving : Bool → List ℕ → ℕ → Serving
 serving df image source =
     record { df = df; directory = directoryOf image; page = mapPage image; source = source }
 
+-- After k references of a search on an image that is well formed: what was laid out is known, the memory stands for the
+-- net's state, and the list has room for as many references as a search can make.
+pub record Underway (q : Serving) (image : List ℕ) (k : ℕ) (places layout : List ℕ) (m : Memory) (list : List ℕ)
+    : Type 0 where
+  pub formed : headingCheck image ≡ accepted
+  pub known : Known image layout
+  pub stands : Stands q k places m
+  pub room : length (q .directory) ≤ length list
+
+-- Reference k + 1 lists page p.
+pub record Lists (q : Serving) (k p : ℕ) (before after : List ℕ) : Type 0 where
+  pub inside : k < length (q .directory)
+  pub pages : (stateAfter q (suc k)) .pages ≡ (stateAfter q k) .pages ++ (p ∷ [])
+  pub list : after ≡ set before k p
+
 module _ (q : Serving) (image : List ℕ) where
   -- What reference k + 1 comes to: nobody was waiting; or page p was referred to, which is listed, and good or bad.
   abbrev pub Referred : ℕ → List ℕ → List ℕ → Memory → List ℕ → List ℕ → Reference → Type 0
   Referred k places layout m before list NobodyWaits =
-      (firstWaiting (q .df) (frame (q .directory)) (stateAfter q k) ≡ Nobody) × Stands q k places m × (list ≡ before)
+      (firstWaiting (q .df) (frameOf q) (stateAfter q k) ≡ Nobody) × Stands q k places m × (list ≡ before)
   Referred k places layout m before list (Made p) =
-      Stands q (suc k) places m × Known image layout ×
-      ((stateAfter q (suc k)) .pages ≡ (stateAfter q k) .pages ++ (p ∷ [])) × (list ≡ set before k p)
+      Stands q (suc k) places m × Known image layout × Lists q k p before list
   Referred k places layout m before list (BadReference number p offset) =
-      ((stateAfter q (suc k)) .halt ≡ refused number p offset) ×
-      ((stateAfter q (suc k)) .pages ≡ (stateAfter q k) .pages ++ (p ∷ [])) × (list ≡ set before k p)
-
--- A search may begin: its map is well formed and has the source, the stations are placed, no reference has been made,
--- and the list has room for as many as a search can make.
-pub record Begun (df : Bool) (source : ℕ) (image places layout : List ℕ) (m : Memory) (list : List ℕ) : Type 0 where
-  pub formed : headingCheck image ≡ accepted
-  pub inside : source < length (directoryOf image)
-  pub placed : Placed (directoryOf image) places
-  pub known : Known image layout
-  pub stands : Stands (serving df image source) 0 places m
-  pub room : length (directoryOf image) ≤ length list
+      ((stateAfter q (suc k)) .halt ≡ refused number p offset) × Lists q k p before list

@@ -1,19 +1,15 @@
 // The run: references until nobody waits, and a whole search from its start.
 
 ghost use mathlib.Core.Path.{_≡_};
-ghost use Prim.Native.Nat.{_%_, _≤_, _<_, min};
-ghost use lib.ListN.{length, getD, set, replicate};
+ghost use Prim.Native.Nat.{_≤_, _<_};
+ghost use lib.ListN.{length, replicate};
 ghost use Rattle.common.specs.Numbers.{nobody};
 ghost use Rattle.page.specs.Image.{directoryOf, headingCheck, accepted};
-ghost use Rattle.layout.specs.Places.{slotOf, pageAt, Placed};
-ghost use Rattle.queue.specs.Queue.{Put};
-ghost use Rattle.relax.specs.Cells.{memory, Room};
-ghost use Rattle.relax.specs.Cells.{Placed as PlacedAt};
-ghost use Rattle.engine.specs.Hand.{Stands};
-ghost use Rattle.net.specs.Run.{searchOf};
+ghost use Rattle.relax.specs.Cells.{memory};
+ghost use Rattle.net.specs.Run.{searchOf, turnLimit};
 ghost use Rattle.engine.specs.Map.{mapFrame, mapPage};
 ghost use Rattle.engine.specs.Ending.{EndedAs};
-ghost use Rattle.engine.specs.Standing.{Begun, Known, turnsFor, serving, Referred};
+ghost use Rattle.engine.specs.Standing.{serving, Underway, Referred};
 use super::Ended;
 use super::Query;
 use super::Reference;
@@ -26,19 +22,19 @@ use layout::places::PLACES;
 use layout::places::STATIONS;
 use layout::places::page_at;
 use layout::places::place;
-use layout::places::slot_of;
 use page::Verdict;
 use page::image::directory_of;
 use page::image::station_count;
 use queue::QUEUE;
-use queue::lower_leaf;
 use queue::top;
+use relax::relax_row;
 
 // The turns that a page in hand gets: one in the plain search, in the DF search more than it has stations.
-fn turns_of(df: bool, n: usize) -> usize
-    requires few { ⌜ n ≤ 2048 ⌝ }
-    ensures value { λ r. ⌜ r ≡ turnsFor df n ⌝ }
+fn turns_of(df: bool, image: &[u8]) -> usize
+    requires formed { ⌜ headingCheck (now image) ≡ accepted ⌝ }
+    ensures value { λ r. ⌜ r ≡ turnLimit df (mapFrame (now (image .entry))) ⌝ }
 {
+    let n = station_count(image);
     if df {
         return n + 1;
     }
@@ -57,13 +53,8 @@ fn refer(
     queue: &mut [u64],
     list: &mut [u8],
 ) -> Reference
-    requires formed { ⌜ headingCheck (now image) ≡ accepted ⌝ }
-    requires source { ⌜ query .source < length (directoryOf (now image)) ⌝ }
-    requires placed { ⌜ Placed (directoryOf (now image)) (now places) ⌝ }
-    requires known { ⌜ Known (now image) (now layout) ⌝ }
-    requires stands { ⌜ Stands (serving (query .df) (now image) (query .source)) count (now places)
-        (memory (now cells) (now waiting) (now queue)) ⌝ }
-    requires room { ⌜ length (directoryOf (now image)) ≤ length (now list) ⌝ }
+    requires underway { ⌜ Underway (serving (query .df) (now image) (query .source)) (now image) count (now places)
+        (now layout) (memory (now cells) (now waiting) (now queue)) (now list) ⌝ }
     ensures referred { λ r. ⌜ Referred (serving (query .df) (now (image .entry)) (query .source)) (now (image .entry))
         count (now (places .entry))
         (now (layout .exit)) (memory (now (cells .exit)) (now (waiting .exit)) (now (queue .exit)))
@@ -75,22 +66,24 @@ fn refer(
     }
     let u = station_of(key);
     let p = page_at(places, u);
-    list[count] = p as u8;
-    match fetch(image, places, u, layout) {
+    let page = p as u8;
+    list[count] = page;
+    match fetch(image, page, u, places, layout) {
         Verdict::Good => {
-            let turns = turns_of(query.df, station_count(image));
+            let turns = turns_of(query.df, image);
             work_page(p, turns, key, places, layout, cells, waiting, queue);
-            Reference::Made(p as u8)
+            Reference::Made(page)
         }
         Verdict::Bad { number, offset } => Reference::Bad {
             number,
-            page: p as u8,
+            page,
             offset,
         },
     }
 }
 
-// References until nobody waits, or a bad page ends the search; no search makes more than there are stations.
+// References until nobody waits, or a bad page ends the search. It ends, as no search makes more than there are
+// stations.
 fn run(
     query: Query,
     image: &[u8],
@@ -101,16 +94,15 @@ fn run(
     queue: &mut [u64],
     list: &mut [u8],
 ) -> Ended
-    requires begun { ⌜ Begun (query .df) (query .source) (now image) (now places) (now layout)
-        (memory (now cells) (now waiting) (now queue)) (now list) ⌝ }
+    requires begun { ⌜ Underway (serving (query .df) (now image) (query .source)) (now image) 0 (now places)
+        (now layout) (memory (now cells) (now waiting) (now queue)) (now list) ⌝ }
     ensures ended { λ r. ⌜
         EndedAs (mapFrame (now (image .entry))) (query .source)
         (searchOf (query .df) (mapFrame (now (image .entry))) (mapPage (now (image .entry))) (query .source))
         (now (cells .exit)) (now (list .entry)) (now (list .exit)) r ⌝ }
 {
-    let n = station_count(image);
     let mut count: usize = 0;
-    while count < n {
+    loop {
         match refer(
             query,
             image,
@@ -140,29 +132,11 @@ fn run(
             }
         }
     }
-    Ended::Over { count }
-}
-
-// At the start the source has time 0 and waits, and nobody else does.
-fn begin(source: usize, places: &[u16], cells: &mut [u64], waiting: &mut [u64], queue: &mut [u64])
-    requires station { ⌜ source < 2048 ⌝ }
-    requires room { ⌜ Room (now places) (memory (now cells) (now waiting) (now queue)) ⌝ }
-    requires placed { ⌜ PlacedAt (now places) source ⌝ }
-    ensures cells { λ _. ⌜ now (cells .exit) ≡ set (now (cells .entry)) source 0 ⌝ }
-    ensures waits { λ _. ⌜
-        now (waiting .exit) ≡ set (now (waiting .entry)) (slotOf (now (places .entry)) source) source ⌝ }
-    ensures leaf { λ _. ⌜
-        Put (now (queue .entry)) (pageAt (now (places .entry)) source)
-        (min (getD (now (queue .entry)) (pageAt (now (places .entry)) source) 0) source) (now (queue .exit)) ⌝ }
-{
-    let slot = slot_of(places, source);
-    cells[source] = 0;
-    waiting[slot] = source as u64;
-    lower_leaf(queue, page_at(places, source), source as u64);
 }
 
 // A whole search: the cells, which are nobody's at first, hold its times and predecessors afterwards, and the front of
-// the list its page list.
+// the list its page list. At the start the source has time 0 and waits, as if a move of no time from station 0 led to
+// it, and nobody else does.
 pub fn search(query: Query, image: &[u8], cells: &mut [u64], list: &mut [u8]) -> Ended
     requires formed { ⌜ headingCheck (now image) ≡ accepted ⌝ }
     requires source { ⌜ query .source < length (directoryOf (now image)) ⌝ }
@@ -178,12 +152,14 @@ pub fn search(query: Query, image: &[u8], cells: &mut [u64], list: &mut [u8]) ->
     let mut waiting = [NOBODY; STATIONS];
     let mut queue = [NOBODY; QUEUE];
     place(directory_of(image), &mut places);
-    begin(
-        query.source as usize,
-        &places,
+    relax_row(
         cells,
         &mut waiting,
         &mut queue,
+        &places,
+        0,
+        0,
+        query.source as u32,
     );
     run(
         query,

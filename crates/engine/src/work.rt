@@ -2,9 +2,10 @@
 // the plain search once.
 
 ghost use mathlib.Core.Path.{_≡_};
-ghost use Prim.Native.Nat.{ℕ, suc, _%_, _≤_};
+ghost use Prim.Native.Nat.{ℕ, suc, _%_};
 ghost use Rattle.relax.specs.Cells.{memory};
-ghost use Rattle.engine.specs.Hand.{Serving, Stands, Hand};
+ghost use Rattle.engine.specs.Board.{Serving};
+ghost use Rattle.engine.specs.Hand.{Stands, Hand};
 use common::NOBODY;
 use layout::places::first_slot;
 use queue::least_between;
@@ -29,18 +30,20 @@ pub fn work_page(
     waiting: &mut [u64],
     queue: &mut [u64],
 )
-    requires in_hand { ⌜ ((q : Serving) × (k : ℕ) × Hand q k p turns key (now places) (now layout)
+    requires in_hand { ⌜ ((q : Serving) × (k : ℕ) × Hand q k p (now places) (now layout) turns key
         (memory (now cells) (now waiting) (now queue))) ⌝ }
-    ensures worked { λ _. ⌜ ((q : Serving) (k : ℕ) → Hand q k p turns key (now (places .entry)) (now (layout .entry))
+    ensures worked { λ _. ⌜ ((q : Serving) (k : ℕ) → Hand q k p (now (places .entry)) (now (layout .entry)) turns key
         (memory (now (cells .entry)) (now (waiting .entry)) (now (queue .entry)))
         → Stands q (suc k) (now (places .entry))
         (memory (now (cells .exit)) (now (waiting .exit)) (now (queue .exit)))) ⌝ }
 {
+    let lo = first_slot(places, p);
+    let hi = first_slot(places, p + 1);
     let mut least = key;
     let mut left = turns;
     while 0 < left && least < NOBODY {
         visit(station_of(least), places, layout, cells, waiting, queue);
-        least = least_between(waiting, first_slot(places, p), first_slot(places, p + 1));
+        least = least_between(waiting, lo, hi);
         left -= 1;
     }
     set_leaf(queue, p, least);

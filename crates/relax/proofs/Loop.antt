@@ -1,7 +1,7 @@
 -- The loop over a row, which has relaxed the rows up to i: whatever the rest of them leads to from the memory as it is
 -- now, all of them lead to from the memory as it was at first.
-use Rattle.common.proofs.Ground.{_≡_, List, [], _∷_, ℕ, suc, _+_, _-_, _/_, _%_, _<_, _≤_, arith, add-one, length}
-use Rattle.common.proofs.Ground.{getD, drop-cons}
+use Rattle.common.proofs.Ground.{_≡_, List, [], _∷_, ℕ, suc, _+_, _-_, _/_, _%_, _<_, _≤_, arith, add-one, length, getD}
+use Rattle.common.proofs.Ground.{drop-cons}
 use Rattle.relax.specs.Cells.{Memory, Relaxed, Relaxing, none, more, Room, Placed, Targets, rowsBetween}
 use Rattle.relax.proofs.Rows.{relaxed-room}
 

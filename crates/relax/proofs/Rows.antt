@@ -1,11 +1,9 @@
--- A move relaxed, entry by entry; and a row relaxed: what each of its moves keeps holds of the working memory after all
--- of them.
-use Rattle.common.proofs.Ground.{_≡_, refl, _∙_, _≢_, List, [], _∷_, List·Memᴰ, List·Memᴰ·head, List·Memᴰ·tail, ℕ, _+_}
-use Rattle.common.proofs.Ground.{_/_, _%_, _<_, min, arith, getD, set, length-set, getD-set-same, getD-set-other}
+-- A move relaxed, entry by entry: it keeps the room of every table, and writes one cell and one waiting key.
+use Rattle.common.proofs.Ground.{_≡_, _∙_, _≢_, List, ℕ, _<_, min, arith, getD, set, length-set, getD-set-same}
+use Rattle.common.proofs.Ground.{getD-set-other}
 use Rattle.queue.specs.Keys.{packed}
 use Rattle.layout.specs.Places.{slotOf}
-use Rattle.relax.specs.Cells.{Memory, memory, loweredKey, Relaxed, Relaxing, none, more, Visited}
-use Rattle.relax.specs.Cells.{Room, Placed, Targets}
+use Rattle.relax.specs.Cells.{Memory, memory, loweredKey, Relaxed, Room, Placed}
 
 module _ {places : List ℕ} {u : ℕ} where
   -- A relaxed move keeps every table's room and the queue in order.
@@ -37,19 +35,6 @@ module _ {places : List ℕ} {u : ℕ} where
         getD (after .waiting) slot 0 ≡ getD (before .waiting) slot 0
     relaxed-waits-other slot n = rw (r .waits) (getD-set-other (before .waiting) (slotOf places v) slot _ 0 n)
 
-  -- What holds of the rows to come and of the memory at first, and is kept by each of them, holds at the end.
-  pub relaxing-keeps : {cost : ℕ} {rows : List ℕ} {first last : Memory} (P : List ℕ → Memory → Type 0) →
-      ((row : ℕ) (rest : List ℕ) (before after : Memory) → P (row ∷ rest) before →
-      Relaxed places u (row % 2048) (cost + row / 2048) before after → P rest after) →
-      Relaxing places u cost rows first last → P rows first → P [] last
-  relaxing-keeps P step none p = p
-  relaxing-keeps P step (more {row} {rows} {first} {next} r s) p =
-      relaxing-keeps P step s (step row rows first next p r)
-
-  pub relaxing-room : {cost : ℕ} {rows : List ℕ} {first last : Memory} → Relaxing places u cost rows first last →
-      Room places first → Room places last
-  relaxing-room = relaxing-keeps (λ rows m. Room places m) (λ row rest before after room r. relaxed-room r room)
-
 -- So does another waiting key.
 pub room-waiting : {places : List ℕ} {m : Memory} (slot key : ℕ) → Room places m →
     Room places (memory (m .cells) (set (m .waiting) slot key) (m .queue))
@@ -59,15 +44,3 @@ room-waiting {m = m} slot key room = record {
   waiting-size = length-set (m .waiting) slot key ∙ room .waiting-size;
   groups = room .groups;
 }
-
--- And so does a whole visit.
-pub visited-room : {places layout : List ℕ} {u : ℕ} {before after : Memory} →
-    Visited places layout u before after → Room places before → Room places after
-visited-room r room = relaxing-room (r .relaxing) (room-waiting _ _ room)
-
--- Rows whose every target is placed.
-pub targets-of : {places : List ℕ} (rows : List ℕ) →
-    ((row : ℕ) → List·Memᴰ row rows → Placed places (row % 2048)) → Targets places rows
-targets-of [] placed = tt
-targets-of (row ∷ rows) placed =
-    (placed row (List·Memᴰ·head refl), targets-of rows (λ other m. placed other (List·Memᴰ·tail m)))

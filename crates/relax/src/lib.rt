@@ -1,8 +1,8 @@
 // Moves relaxed on a search's working memory (01, "The two searches"): cells, in which each station has its cost and
 // its predecessor; waiting, in which each slot has the key by which its station waits; and the queue of pages, which is
 // told of every key that falls. Where a station's slot, page and row stand is read from two lent tables, the places and
-// the layout. A cell, a key and a row are each a cost or a time times 2048, plus a station. What a search cites of
-// cells is in proofs/Cells.antt, of a row relaxed in proofs/Rows.antt.
+// the layout. A cell, a key and a row are each a cost or a time times 2048, plus a station. What a search cites of a
+// move relaxed is in proofs/Rows.antt; that the lesser of two cells is the rule of 01, in proofs/Cells.antt.
 ghost use mathlib.Core.Path.{_≡_};
 ghost use Prim.Native.Nat.{_+_, _*_, _/_, _%_, _<_, _≤_, min};
 ghost use lib.ListN.{length, getD, set};
@@ -61,7 +61,7 @@ fn relax_cell(
 }
 
 // Relaxes a move of station u, whose cost is given: the move leads to station `row % 2048` in time `row / 2048`.
-fn relax_row(
+pub fn relax_row(
     cells: &mut [u64],
     waiting: &mut [u64],
     queue: &mut [u64],

@@ -14,24 +14,23 @@ abbrev μ-loop : tie.MeasureT-loop
 
 loop-holds : tie.Need-loop-holds Inv-loop μ-loop
 loop-holds c =
-    let start = c .before .before .before .before .before in
-    going-start (start .pre .1 .1 .0) (start .pre .1 .1 .1 .1)
+    let (from, (cost, (room, (within, targets)))) = c .before .before .before .before .before .pre in
+    going-start room targets
 
 relax-row-requires : tie.Need-relax-row-requires Inv-loop μ-loop
 relax-row-requires c κs =
     let turn = c .before .before .before .before .before in
-    let asked = turn .before .before .before .before .before .before .pre in
+    let (from, (cost, (room, (within, targets)))) = turn .before .before .before .before .before .before .pre in
     let now = turn .loop .inv in
-    let target = going-target now (c .before .before .before .before .loop-test .taken) (asked .1 .1 .1 .0) in
-    (asked .0, (asked .1 .0, (now .room, target)))
+    (from, (cost, (now .room, going-target now (c .before .before .before .before .loop-test .taken) within)))
 
 loop-again : tie.Need-loop-again Inv-loop μ-loop
 loop-again c =
     let relaxed = c .before .before .before .before .before .before in
     let test = relaxed .before .before .before .before .before in
     let turn = test .before in
-    let asked = turn .before .before .before .before .before .before .pre in
-    going-more (turn .loop .inv) (test .loop-test .taken) (asked .1 .1 .1 .0) (relaxed .relax-row .ensures)
+    let (from, (cost, (room, (within, targets)))) = turn .before .before .before .before .before .before .pre in
+    going-more (turn .loop .inv) (test .loop-test .taken) within (relaxed .relax-row .ensures)
 
 returns : tie.Need-returns Inv-loop μ-loop
 returns c = going-end (c .before .loop .inv) (c .loop-test .left)

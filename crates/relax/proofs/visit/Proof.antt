@@ -1,36 +1,18 @@
 -- The memory handed to `relax_rows` is the one in which u no longer waits, and its row is what stands in the layout.
-use Rattle.common.proofs.Ground.{sym, _∙_, arith, needs}
-use Rattle.relax.proofs.Rows.{relaxing-room, room-waiting}
+use Rattle.common.proofs.Ground.{_∙_, arith, length-set, needs}
+use Rattle.relax.proofs.Rows.{room-waiting}
 use Rattle.relax.proofs.visit.Statement.{statement}
 use Rattle.relax.proofs.visit.Tie as tie
 
--- The function's start, seen from where the end of the row has been read.
-abbrev start : tie.After-end-of → tie.Start
-start c = c .before .before .before .before .before .before .before .before .before .before .before .before
-
 relax-rows-requires : tie.Need-relax-rows-requires
 relax-rows-requires c κs =
-    let begun = start c in
-    let row = begun .pre .1 .1 .1 .1 in (
-      begun .pre .0,
-      (
-        begun .pre .1 .0,
-        (
-          room-waiting _ _ (begun .pre .1 .1 .0),
-          (
-            omega (arith, c .end-of .ensures, row .size, row .within),
-            rw (c .end-of .ensures, c .before .begin-of .ensures) (row .targets),
-          ),
-        ),
-      ),
-    )
+    let start = c .before .before .before .before .before .before .before .before .before .before .before .before in
+    let (from, (cost, (room, (placed, row)))) = start .pre in
+    let targets = rw (← (c .end-of .ensures), ← (c .before .begin-of .ensures)) at (row .targets) in
+    (from, (cost, (room-waiting _ _ room, (search needs, targets))))
 
 same-length-2 : tie.Need-same-length-2
-same-length-2 c =
-    let relaxed = c .before .before .before .before .before .before in
-    let room = start (relaxed .before) .pre .1 .1 .0 in
-    let after = relaxing-room (relaxed .relax-rows .ensures) (room-waiting _ _ room) in
-    after .waiting-size ∙ sym (room .waiting-size)
+same-length-2 c = c .before .before .before .before .before .before .relax-rows .kept .1 .0 ∙ simp length-set
 
 returns : tie.Need-returns
 returns c =
