@@ -10,6 +10,7 @@ use Rattle.net.proofs.Runs.{Standing, run-standing, start-waits}
 use Rattle.layout.specs.Places.{Placed}
 use Rattle.page.specs.Bytes.{Bytes}
 use Rattle.page.specs.Image.{directoryOf, headingCheck, accepted}
+use Rattle.page.proofs.Heading.{formed}
 use Rattle.page.proofs.Parts.{bytes-directory}
 use Rattle.queue.proofs.Groups.{least-empty, empty-groups}
 use Rattle.relax.specs.Cells.{Memory, memory, Room, Relaxed, longest, noCost, Placed as PlacedAt}
@@ -113,18 +114,22 @@ module _ {q : Serving} {places : List ℕ} (placing : Placing q places) {m : Mem
   }
 
 -- On an image: its net is sound, its stations are placed, and nothing of it is laid out in a table of zeros.
-module _ (df : Bool) (image : List ℕ) (source : ℕ) (bytes : Bytes image) (formed : headingCheck image ≡ accepted)
+module _ (df : Bool) (image : List ℕ) (source : ℕ) (bytes : Bytes image) (well : headingCheck image ≡ accepted)
     (inside : source < length (directoryOf image)) {places cells : List ℕ} (placed : Placed (directoryOf image) places)
     (nobodys : cells ≡ empty .cells) where
   abbrev before : Memory
   before = memory cells (empty .waiting) (empty .queue)
 
   placing : Placing (serving df image source) places
-  placing = record {
-    sound = image-sound image bytes formed source inside;
-    placed = placed;
-    bytes = bytes-directory image bytes;
-  }
+  placing =
+      let f = formed image well in
+      record {
+        sound = image-sound image bytes well source inside;
+        placed = placed;
+        few = omega arith;
+        bytes = bytes-directory image bytes;
+        paged = λ v h. f .paged v (omega arith);
+      }
 
   station : source % 2048 ≡ source
   station = omega (arith, placed .few)
@@ -141,7 +146,7 @@ module _ (df : Bool) (image : List ℕ) (source : ℕ) (bytes : Bytes image) (fo
   begun-image r room =
       let time : 0 + source / 2048 ≡ 0 = omega (arith, placed .few) in
       record {
-        formed = formed;
+        formed = well;
         known = record {
           size = length-replicate {A = ℕ} 17152 0;
           page = λ v h some.

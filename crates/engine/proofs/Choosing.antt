@@ -13,6 +13,7 @@ use Rattle.net.proofs.Basics.Least.{Before}
 use Rattle.net.proofs.Steps.Waiting.{waits-timed, on-found, on-nobody, first-found, nobody-found}
 use Rattle.layout.specs.Places.{firstSlot, slotOf}
 use Rattle.queue.specs.Keys.{packed, leastIn}
+use Rattle.queue.specs.Queue.{leavesOf}
 use Rattle.queue.proofs.Least.{least-at-most, least-found}
 use Rattle.relax.specs.Cells.{Memory}
 use Rattle.engine.specs.Board.{keyIf, leastOn, chosen, Serving, frameOf, Board}
@@ -104,13 +105,16 @@ module _ {q : Serving} {places : List ℕ} {hand : ℕ} {s : State} {m : Memory}
 -- With no page in hand the least leaf names the first of all that wait.
 module _ {q : Serving} {places : List ℕ} {s : State} {m : Memory} (b : Board q places 256 s m) where
   abbrev leaves : List ℕ
-  leaves = take 256 (m .queue)
+  leaves = take (leavesOf (q .count)) (m .queue)
 
-  leaves-size : length leaves ≡ 256
-  leaves-size = omega (arith, length-take 256 (m .queue), b .room .groups .size)
+  leaves-size : length leaves ≡ leavesOf (q .count)
+  leaves-size =
+      omega (arith, length-take (leavesOf (q .count)) (m .queue), b .room .groups .size, b .placing .few)
 
-  leaf-at : (p : ℕ) → p < 256 → getD leaves p 0 ≡ leastOn places (m .waiting) p
-  leaf-at p l = getD-take 256 (m .queue) p 0 l ∙ b .leaf p l (λ e. omega arith)
+  leaf-at : (p : ℕ) → p < leavesOf (q .count) → (p < 256) × (getD leaves p 0 ≡ leastOn places (m .waiting) p)
+  leaf-at p l =
+      let below : p < 256 = omega (arith, b .placing .few) in
+      (below, getD-take (leavesOf (q .count)) (m .queue) p 0 l ∙ b .leaf p below (λ e. omega arith))
 
   -- below nobody's it is the key of a station that waits, and the least of that station's page
   top-found : leastIn leaves < nobody → (v : ℕ) × (v < length (q .directory)) × (Waits b v)
@@ -118,8 +122,8 @@ module _ {q : Serving} {places : List ℕ} {s : State} {m : Memory} (b : Board q
       × (leastOn places (m .waiting) (getD (q .directory) v 0) ≡ leastIn leaves)
   top-found lt =
       let f = least-found leaves lt in
-      let l : f .place < 256 = omega (arith, leaves-size) in
-      let same = sym (leaf-at (f .place) l) ∙ f .held in
+      let (l, is) = leaf-at (f .place) (omega (arith, leaves-size)) in
+      let same = sym is ∙ f .held in
       let (v, small, some, e) = on-least b (f .place) l .found (rw same lt) in
       (v, small, some .1, sym same ∙ e, rw (some .0) same)
 
@@ -136,9 +140,9 @@ module _ {q : Serving} {places : List ℕ} {s : State} {m : Memory} (b : Board q
         timed = λ v w. waits-timed (q .df) (frameOf q) s v w;
         most = λ v h w.
             let p = getD (q .directory) v 0 in
-            let l = b .placing .bytes v in
-            let le = least-at-most leaves p (omega (arith, leaves-size)) in
-            omega (arith, leaf-at p l, on-least b p l .most v h (refl, w));
+            let (l, is) = leaf-at p (omega (arith, b .placing .paged v h)) in
+            let le = least-at-most leaves p (omega (arith, leaves-size, b .placing .paged v h)) in
+            omega (arith, is, on-least b p l .most v h (refl, w));
         found = λ lt. let (v, small, w, e, same) = top-found lt in (v, small, w, e);
       })
       _

@@ -16,6 +16,7 @@ use Rattle.page.specs.Check.{readingOf}
 use Rattle.layout.specs.Places.{pageAt}
 use Rattle.layout.specs.Rows.{entryOf}
 use Rattle.queue.specs.Keys.{leastIn}
+use Rattle.queue.specs.Queue.{leavesOf}
 use Rattle.relax.specs.Cells.{Memory}
 use Rattle.engine.specs.Board.{leastOn, chosen, Serving, frameOf}
 use Rattle.engine.specs.Map.{mapFrame, netMove, offered, mapPage}
@@ -36,7 +37,7 @@ pub record Next (q : Serving) (k : ℕ) (places : List ℕ) (m : Memory) (key u 
 
 -- With the memory standing for the state after k references, by the least key of all.
 module _ {q : Serving} {k key : ℕ} {places : List ℕ} {m : Memory} (s : Stands q k places m)
-    (is : key ≡ leastIn (take 256 (m .queue))) where
+    (is : key ≡ leastIn (take (leavesOf (q .count)) (m .queue))) where
   first-is : firstWaiting (q .df) (frameOf q) (stateAfter q k) ≡ chosen key
   first-is = first-of-all (s .board) (s .going) ∙ ap chosen (sym is)
 

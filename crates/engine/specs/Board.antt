@@ -37,10 +37,11 @@ leastOn places waiting p = leastFrom waiting (firstSlot places p) (firstSlot pla
 abbrev pub chosen : ℕ → Choice
 chosen key = pick (ltb key nobody) (Station (key % 2048)) Nobody
 
--- Which search: DF or plain, the directory of its map, what its pages offer, and its source.
+-- Which search: DF or plain, the directory of its map, how many pages it has and what they offer, and its source.
 pub record Serving : Type 0 where
   pub df : Bool
   pub directory : List ℕ
+  pub count : ℕ
   pub page : ℕ → Page
   pub source : ℕ
 
@@ -51,7 +52,9 @@ frameOf q = frame (q .directory)
 pub record Placing (q : Serving) (places : List ℕ) : Type 0 where
   pub sound : Sound (frameOf q) (q .page) (q .source)
   pub placed : Placed (q .directory) places
+  pub few : q .count ≤ 256
   pub bytes : (v : ℕ) → getD (q .directory) v 0 < 256
+  pub paged : (v : ℕ) → v < length (q .directory) → getD (q .directory) v 0 < q .count
 
 -- In state s station v has its cell, and its key in its slot.
 abbrev pub StationIs : Serving → List ℕ → State → Memory → ℕ → Type 0

@@ -11,7 +11,7 @@ use Rattle.net.specs.Run.{firstWaiting}
 use Rattle.page.specs.declared.Move.{Move}
 use Rattle.page.specs.declared.Verdict.{Verdict}
 use Rattle.page.specs.declared.Verdict.the-variants.{Good, Bad}
-use Rattle.page.specs.Image.{directoryOf, headingCheck, accepted}
+use Rattle.page.specs.Image.{directoryOf, pageCount, headingCheck, accepted}
 use Rattle.page.specs.Reading.{Leaving, good, bad}
 use Rattle.page.specs.Check.{readingOf}
 use Rattle.page.specs.Laying.{PageLaid}
@@ -45,7 +45,7 @@ Fetched image p layout (Bad number offset) = readingOf image p ≡ bad number of
 -- A search on an image, with the one comparison.
 abbrev pub serving : Bool → List ℕ → ℕ → Serving
 serving df image source =
-    record { df = df; directory = directoryOf image; page = mapPage image; source = source }
+    record { df = df; directory = directoryOf image; count = pageCount image; page = mapPage image; source = source }
 
 -- After k references of a search on an image that is well formed: what was laid out is known, the memory stands for the
 -- net's state, and the list has room for as many references as a search can make.

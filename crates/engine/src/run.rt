@@ -24,6 +24,7 @@ use layout::places::page_at;
 use layout::places::place;
 use page::Verdict;
 use page::image::directory_of;
+use page::image::page_count;
 use page::image::station_count;
 use queue::QUEUE;
 use queue::top;
@@ -60,7 +61,7 @@ fn refer(
         (now (layout .exit)) (memory (now (cells .exit)) (now (waiting .exit)) (now (queue .exit)))
         (now (list .entry)) (now (list .exit)) r ⌝ }
 {
-    let key = top(queue);
+    let key = top(queue, page_count(image));
     if NOBODY <= key {
         return Reference::NobodyWaits;
     }

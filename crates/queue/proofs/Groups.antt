@@ -66,21 +66,17 @@ put-set queue p key y h q e =
     let width : 16 * (p / 16) + 16 - 16 * (p / 16) ≡ 16 = omega arith in
     put-both queue p key y h q (rw width at e)
 
--- The least of the first k groups is the least of their leaves.
-groups-least : (queue : List ℕ) → Groups queue → (k : ℕ) → k ≤ 16 →
+-- The least of the first k groups, which is what `top` looks at, is the least of their leaves.
+pub top-least : (queue : List ℕ) → Groups queue → (k : ℕ) → k ≤ 16 →
     leastFrom queue 256 k ≡ leastIn (take (16 * k) queue)
-groups-least queue q zero h = least-none queue 256 ∙ sym (least-none queue 0)
-groups-least queue q (suc k) h =
+top-least queue q zero h = least-none queue 256 ∙ sym (least-none queue 0)
+top-least queue q (suc k) h =
     let next : 16 * (k + 1) ≡ 16 * k + 16 = omega arith in
     rw (sym (add-one k), next)
     (least-more queue 256 k (omega (arith, q .size)) ∙
-    ap (λ x. min x (getD queue (256 + k) 0)) (groups-least queue q k (omega arith)) ∙
+    ap (λ x. min x (getD queue (256 + k) 0)) (top-least queue q k (omega arith)) ∙
     ap (λ x. min (leastIn (take (16 * k) queue)) x) (q .group k h) ∙
     sym (least-onward queue (16 * k) 16))
-
--- So the least of the 16 groups, which is what `top` looks at, is the least of all leaves.
-pub top-least : (queue : List ℕ) → Groups queue → leastFrom queue 256 16 ≡ leastIn (take 256 queue)
-top-least queue q = groups-least queue q 16 (omega arith)
 
 -- A new array is the queue in which nobody waits.
 pub least-empty : (size lo k : ℕ) → leastFrom (replicate size nobody) lo k ≡ nobody

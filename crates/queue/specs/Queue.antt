@@ -2,7 +2,7 @@
 use mathlib.Core.Path.{_≡_}
 use mathlib.Core.Logic.{_≢_}
 use mathlib.Core.List.{List}
-use Prim.Native.Nat.{ℕ, _+_, _*_, _<_}
+use Prim.Native.Nat.{ℕ, _+_, _*_, _/_, _<_}
 use lib.ListN.{length, getD}
 use Rattle.queue.specs.Keys.{leastFrom}
 
@@ -16,3 +16,7 @@ pub record Put (before : List ℕ) (p key : ℕ) (after : List ℕ) : Type 0 whe
   pub groups : Groups after
   pub same : getD after p 0 ≡ key
   pub other : (q : ℕ) → q < 256 → q ≢ p → getD after q 0 ≡ getD before q 0
+
+-- The leaves of the groups, by fours, that the first `pages` pages are in.
+abbrev pub leavesOf : ℕ → ℕ
+leavesOf pages = 16 * ((pages + 63) / 64 * 4)

@@ -6,7 +6,7 @@ ghost use mathlib.Core.Path.{_≡_};
 ghost use Prim.Native.Nat.{_-_, _<_, _≤_, min};
 ghost use lib.ListN.{length, getD, take, drop};
 ghost use Rattle.queue.specs.Keys.{leastIn};
-ghost use Rattle.queue.specs.Queue.{Groups, Put};
+ghost use Rattle.queue.specs.Queue.{Groups, Put, leavesOf};
 use common::NOBODY;
 
 // The leaves, and how many of them make a group; there are as many groups. And the entries in all.
@@ -30,28 +30,22 @@ fn least_of(a: u64, b: u64, c: u64, d: u64) -> u64
     lesser(lesser(a, b), lesser(c, d))
 }
 
-// The least of the keys from `lo` up to `hi`. Four accumulators make four short chains of comparisons of one long one.
-// They change places at each turn because compilers make vector code of the loop otherwise, which is slower at the
-// length of a page.
+// The least of the keys from `lo` up to `hi`. Four of them are compared in a turn, so that the least so far waits for
+// one comparison and not for four.
 pub fn least_between(keys: &[u64], lo: usize, hi: usize) -> u64
     requires ordered { ⌜ lo ≤ hi ⌝ }
     requires inside { ⌜ hi ≤ length (now keys) ⌝ }
     ensures least { λ r. ⌜ r ≡ leastIn (take (hi - lo) (drop lo (now (keys .entry)))) ⌝ }
 {
-    let mut a = NOBODY;
-    let mut b = NOBODY;
-    let mut c = NOBODY;
-    let mut d = NOBODY;
+    let mut least = NOBODY;
     let mut i = lo;
     while i + 3 < hi {
-        let first = lesser(a, keys[i]);
-        a = lesser(b, keys[i + 1]);
-        b = lesser(c, keys[i + 2]);
-        c = lesser(d, keys[i + 3]);
-        d = first;
+        least = lesser(
+            least,
+            least_of(keys[i], keys[i + 1], keys[i + 2], keys[i + 3]),
+        );
         i += 4;
     }
-    let mut least = least_of(a, b, c, d);
     while i < hi {
         least = lesser(least, keys[i]);
         i += 1;
@@ -82,10 +76,12 @@ pub fn set_leaf(queue: &mut [u64], p: usize, key: u64)
     queue[LEAVES + g] = least_between(queue, GROUP * g, GROUP * g + GROUP);
 }
 
-// The least key of all pages.
-pub fn top(queue: &[u64]) -> u64
+// The least key of the first `pages` pages, and of those that fill up their last four groups. On a map of few pages
+// most groups are nobody's, and not looked at; four are looked at in a turn.
+pub fn top(queue: &[u64], pages: usize) -> u64
+    requires pages { ⌜ pages ≤ 256 ⌝ }
     requires groups { ⌜ Groups (now queue) ⌝ }
-    ensures least { λ r. ⌜ r ≡ leastIn (take 256 (now (queue .entry))) ⌝ }
+    ensures least { λ r. ⌜ r ≡ leastIn (take (leavesOf pages) (now (queue .entry))) ⌝ }
 {
-    least_between(queue, LEAVES, LEAVES + GROUP)
+    least_between(queue, LEAVES, LEAVES + (pages + 63) / 64 * 4)
 }

@@ -1,8 +1,11 @@
 -- The least key of all names the station that the net's run refers to next (proofs/Referring.antt). Its page is listed
 -- and fetched; a good one is worked on, which is the state after one reference more, and a bad one ends the search.
-use Rattle.common.proofs.Ground.{_≡_, refl, subst, List, ℕ, arith, now, needs}
+use Rattle.common.proofs.Ground.{_≡_, refl, subst, List, ℕ, arith, take, now, needs}
 use Rattle.page.specs.declared.Verdict.{Verdict}
 use Rattle.page.specs.declared.Verdict.the-variants.{Good}
+use Rattle.page.specs.Image.{pageCount}
+use Rattle.queue.specs.Keys.{leastIn}
+use Rattle.queue.specs.Queue.{leavesOf}
 use Rattle.relax.specs.Cells.{Memory, memory}
 use Rattle.engine.specs.Board.{Serving}
 use Rattle.engine.specs.Hand.{Hand}
@@ -11,40 +14,53 @@ use Rattle.engine.proofs.Referring.{Next, nobody-first, next-station, l
 use Rattle.engine.proofs.run.refer.Statement.{statement}
 use Rattle.engine.proofs.run.refer.Tie as tie
 
+-- Once the least key of all is known.
+module _ (sought : tie.After-top) where
+  abbrev start : tie.Start
+  start = sought .before .before .before .before .before .before .before .before .before .before
+
+  least : sought .top .result ≡ leastIn (take (leavesOf (pageCount (now (start .args .image)))) (now (start .args .queue)))
+  least = rw (sought .before .page-count .ensures .0) at (sought .top .ensures)
+
+top-requires : tie.Need-top-requires
+top-requires c κs =
+    let board = c .before .before .before .before .before .before .before .before .before .pre .stands .board in
+    (omega (arith, c .page-count .ensures .0, board .placing .few), board .room .groups)
+
 returns : tie.Need-returns
 returns c =
-    let stands = c .before .before .before .before .before .before .before .before .before .before .pre .stands in
-    (nobody-first stands (c .before .top .ensures) (c .if1 .taken), stands, refl)
+    let stands = start (c .before) .pre .stands in
+    (nobody-first stands (least (c .before)) (c .if1 .taken), stands, refl)
 
 -- Once the station and its page are known.
 module _ (known : tie.After-page-at) where
-  abbrev start : tie.Start
-  start = known .before .before .before .before .before .before .before .before .before .before .before .before
+  abbrev begun : tie.Start
+  begun = start (known .before .before .before)
 
   abbrev image : List ℕ
-  image = now (start .args .image)
+  image = now (begun .args .image)
 
   abbrev q : Serving
-  q = serving (start .args .query .df) image (start .args .query .source)
+  q = serving (begun .args .query .df) image (begun .args .query .source)
 
   abbrev tables : Memory
-  tables = memory (now (start .args .cells)) (now (start .args .waiting)) (now (start .args .queue))
+  tables = memory (now (begun .args .cells)) (now (begun .args .waiting)) (now (begun .args .queue))
 
-  next : Next q (start .args .count) (now (start .args .places)) tables (known .before .before .before .top .result)
+  next : Next q (begun .args .count) (now (begun .args .places)) tables (known .before .before .before .top .result)
       (known .before .station-of .result) (known .page-at .result)
-  next = next-station (start .pre .stands) (known .before .before .before .top .ensures)
+  next = next-station (begun .pre .stands) (least (known .before .before .before))
       (known .before .before .if1 .left) (known .before .station-of .ensures) (known .page-at .ensures)
 
 cast-page : tie.Need-cast-page
 cast-page c = omega (arith, next c .below)
 
 slice-write-list : tie.Need-slice-write-list
-slice-write-list c = omega (arith, next c .count, start c .pre .room)
+slice-write-list c = omega (arith, next c .count, begun c .pre .room)
 
 fetch-requires : tie.Need-fetch-requires
 fetch-requires c κs =
     let n = next (c .before) in
-    (n .stands .board .placing .placed, (n .inside, (n .on, start (c .before) .pre .known)))
+    (n .stands .board .placing .placed, (n .inside, (n .on, begun (c .before) .pre .known)))
 
 -- Once the page is fetched.
 module _ (read : tie.After-fetch) where
@@ -60,8 +76,8 @@ module _ (limited : tie.After-turns-of) where
   abbrev named : tie.After-fetch
   named = limited .before .before .before .before .before
 
-  taken : Hand (q (known named)) (start (known named) .args .count) (known named .page-at .result)
-      (now (start (known named) .args .places)) (named .fetch .last .1 .1 .1 .1 .0) (limited .turns-of .result)
+  taken : Hand (q (known named)) (begun (known named) .args .count) (known named .page-at .result)
+      (now (begun (known named) .args .places)) (named .fetch .last .1 .1 .1 .1 .0) (limited .turns-of .result)
       (known named .before .before .before .top .result) (tables (known named))
   taken = hand-image (image (known named)) (next (known named))
       (fetched named Good (limited .before .enum-told .given .1)) (limited .turns-of .ensures)
@@ -70,14 +86,14 @@ work-page-requires : tie.Need-work-page-requires
 work-page-requires c κs =
     let limited = c .before .before .before .before in
     let known = known (named limited) in
-    (q known, start known .args .count, taken limited)
+    (q known, begun known .args .count, taken limited)
 
 returns-2 : tie.Need-returns-2
 returns-2 c =
     let worked = c .before .before .before .before .before .before in
     let limited = worked .before .before .before .before .before in
     let known = known (named limited) in (
-      worked .work-page .ensures (q known) (start known .args .count) (taken limited),
+      worked .work-page .ensures (q known) (begun known .args .count) (taken limited),
       fetched (named limited) Good (limited .before .enum-told .given .1) .0,
       lists (next known),
     )
@@ -93,6 +109,7 @@ refer-spec =
     tie.close
     (tie.spec
     (λ c κs. search needs)
+    top-requires
     (λ c. search needs)
     returns
     (λ c κs. search needs)
