@@ -1,6 +1,6 @@
--- The memory at the start of a search. As if a move of no time had been relaxed on tables in which everybody's entries
--- are nobody's, the source alone has a time, and waits.
-use Rattle.common.proofs.Ground.{_≡_, refl, Bool, _≢_, dite, List, ℕ, _+_, _/_, _%_, _≤_, _<_, arith, ℕ-discrete}
+-- The memory at the start of a search. The source is offered cost 0 on tables in which all entries are nobody's, so that
+-- it alone has a time, and waits.
+use Rattle.common.proofs.Ground.{_≡_, refl, Bool, _≢_, dite, List, ℕ, _+_, _≤_, _<_, arith, ℕ-discrete}
 use Rattle.common.proofs.Ground.{length, getD, replicate, length-replicate, getD-replicate, getD-set-other, eq-eqb}
 use Rattle.common.proofs.Ground.{ne-eqb}
 use Rattle.common.specs.Numbers.{nobody, noTime}
@@ -13,7 +13,7 @@ use Rattle.page.specs.Image.{directoryOf, headingCheck, accepted}
 use Rattle.page.proofs.Heading.{formed}
 use Rattle.page.proofs.Parts.{bytes-directory}
 use Rattle.queue.proofs.Groups.{least-empty, empty-groups}
-use Rattle.relax.specs.Cells.{Memory, memory, Room, Relaxed, longest, noCost, Placed as PlacedAt}
+use Rattle.relax.specs.Cells.{Memory, memory, Room, Relaxed, noCost, Placed as PlacedAt}
 use Rattle.relax.proofs.Rows.{relaxed-room, relaxed-cell, relaxed-other, relaxed-waits, relaxed-waits-other}
 use Rattle.engine.specs.Board.{Serving, frameOf, Placing, StationIs}
 use Rattle.engine.specs.Hand.{Stands}
@@ -131,27 +131,22 @@ module _ (df : Bool) (image : List ℕ) (source : ℕ) (bytes : Bytes image) (we
         paged = λ v h. f .paged v (omega arith);
       }
 
-  station : source % 2048 ≡ source
-  station = omega (arith, placed .few)
-
-  -- what relaxing that move asks, and what it leaves
-  pub begin-asks : (0 < 2048) × ((0 + longest < noCost) × (Room places before × PlacedAt places (source % 2048)))
+  -- what the offer asks, and what it leaves
+  pub begin-asks : (0 < 2048) × ((source < 2048) × ((0 < noCost) × (Room places before × PlacedAt places source)))
   begin-asks =
-      let room = empty-room (placed .size) in
-      (omega arith, (omega arith, (rw nobodys room, rw station (placed-at placing source inside))))
+      let room : Room places before = rw nobodys (empty-room (placed .size)) in
+      (omega arith, (omega (arith, placed .few), (omega arith, (room, placed-at placing source inside))))
 
-  pub begun-image : {list : List ℕ} {m : Memory} → Relaxed places 0 (source % 2048) (0 + source / 2048) before m
+  pub begun-image : {list : List ℕ} {m : Memory} → Relaxed places 0 source 0 before m
       → length (directoryOf image) ≤ length list
       → Underway (serving df image source) image 0 places (replicate 17152 0) m list
-  begun-image r room =
-      let time : 0 + source / 2048 ≡ 0 = omega (arith, placed .few) in
-      record {
-        formed = well;
-        known = record {
-          size = length-replicate {A = ℕ} 17152 0;
-          page = λ v h some.
-              absurd (omega (arith, getD-replicate {A = ℕ} 17152 (2048 + v) 0 0 (omega (arith, placed .few))));
-        };
-        stands = begun-stands placing (rw (station, time, nobodys) at r);
-        room = room;
-      }
+  begun-image r room = record {
+    formed = well;
+    known = record {
+      size = length-replicate {A = ℕ} 17152 0;
+      page = λ v h some.
+          absurd (omega (arith, getD-replicate {A = ℕ} 17152 (2048 + v) 0 0 (omega (arith, placed .few))));
+    };
+    stands = begun-stands placing (rw nobodys at r);
+    room = room;
+  }

@@ -28,7 +28,7 @@ use page::image::page_count;
 use page::image::station_count;
 use queue::QUEUE;
 use queue::top;
-use relax::relax_row;
+use relax::offer;
 
 // The turns that a page in hand gets: one in the plain search, in the DF search more than it has stations.
 fn turns_of(df: bool, image: &[u8]) -> usize
@@ -136,8 +136,8 @@ fn run(
 }
 
 // A whole search: the cells, which are nobody's at first, hold its times and predecessors afterwards, and the front of
-// the list its page list. At the start the source has time 0 and waits, as if a move of no time from station 0 led to
-// it, and nobody else does.
+// the list its page list. At the start the source is offered cost 0 in the name of station 0, by which its cell
+// is 0 and it waits; nobody else does.
 pub fn search(query: Query, image: &[u8], cells: &mut [u64], list: &mut [u8]) -> Ended
     requires formed { ⌜ headingCheck (now image) ≡ accepted ⌝ }
     requires source { ⌜ query .source < length (directoryOf (now image)) ⌝ }
@@ -153,15 +153,8 @@ pub fn search(query: Query, image: &[u8], cells: &mut [u64], list: &mut [u8]) ->
     let mut waiting = [NOBODY; STATIONS];
     let mut queue = [NOBODY; QUEUE];
     place(directory_of(image), &mut places);
-    relax_row(
-        cells,
-        &mut waiting,
-        &mut queue,
-        &places,
-        0,
-        0,
-        query.source as u32,
-    );
+    let source = query.source as usize;
+    offer(cells, &mut waiting, &mut queue, &places, 0, source, 0);
     run(
         query,
         image,

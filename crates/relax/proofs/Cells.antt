@@ -25,7 +25,7 @@ cell-rule cost pred sum u h k = go (ltb sum cost) (eqb sum cost) (ltb u pred) re
 pub cell-first : (sum u : ℕ) → sum < noCost → u < 2048 → min nobody (packed sum u) ≡ packed sum u
 cell-first sum u h k = omega arith
 
--- What `relax_row` has by its callees, which name the key that was handed back.
+-- What `offer` has by its callees, which name the key that was handed back.
 pub relaxed-by : {places cells waiting queue cells' waiting' queue' : List ℕ} {u v sum : ℕ} (r slot p : ℕ) →
     slot ≡ slotOf places v → p ≡ pageAt places v → r ≡ loweredKey (getD cells v 0) sum v →
     cells' ≡ set cells v (min (getD cells v 0) (packed sum u)) →

@@ -60,31 +60,31 @@ fn relax_cell(
     key
 }
 
-// Relaxes a move of station u, whose cost is given: the move leads to station `row % 2048` in time `row / 2048`.
-pub fn relax_row(
+// The same, and the queue is told of the key. A search begins by it too: its source is offered cost 0.
+pub fn offer(
     cells: &mut [u64],
     waiting: &mut [u64],
     queue: &mut [u64],
     places: &[u16],
     u: usize,
-    cost: u64,
-    row: u32,
+    v: usize,
+    sum: u64,
 )
     requires from { ⌜ u < 2048 ⌝ }
-    requires cost { ⌜ cost + longest < noCost ⌝ }
+    requires to { ⌜ v < 2048 ⌝ }
+    requires cost { ⌜ sum < noCost ⌝ }
     requires room { ⌜ Room (now places) (memory (now cells) (now waiting) (now queue)) ⌝ }
-    requires target { ⌜ Placed (now places) (row % 2048) ⌝ }
-    ensures relaxed { λ r. ⌜ Relaxed (now (places .entry)) u (row % 2048) (cost + row / 2048)
+    requires placed { ⌜ Placed (now places) v ⌝ }
+    ensures relaxed { λ r. ⌜ Relaxed (now (places .entry)) u v sum
         (memory (now (cells .entry)) (now (waiting .entry)) (now (queue .entry)))
         (memory (now (cells .exit)) (now (waiting .exit)) (now (queue .exit))) ⌝ }
 {
-    let v = (row as usize) % STATIONS;
-    let sum = cost + (row as u64) / (STATIONS as u64);
     let key = relax_cell(cells, waiting, u, v, slot_of(places, v), sum);
     lower_leaf(queue, page_at(places, v), key);
 }
 
-// Relaxes the rows of the layout from `lo` up to `hi`, which are moves of station u, whose cost is given.
+// Relaxes the rows of the layout from `lo` up to `hi`, which are moves of station u, whose cost is given: each leads to
+// station `row % 2048` in time `row / 2048`.
 fn relax_rows(
     cells: &mut [u64],
     waiting: &mut [u64],
@@ -107,7 +107,10 @@ fn relax_rows(
 {
     let mut i = lo;
     while i < hi {
-        relax_row(cells, waiting, queue, places, u, cost, layout[i]);
+        let row = layout[i];
+        let v = (row as usize) % STATIONS;
+        let sum = cost + (row as u64) / (STATIONS as u64);
+        offer(cells, waiting, queue, places, u, v, sum);
         i += 1;
     }
 }

@@ -29,8 +29,8 @@ module _ (settled : tie.After-place) where
   placed : Placed (directoryOf image) (settled .place .last .1 .0)
   placed = rw (settled .before .before .directory-of .ensures) at (settled .place .ensures)
 
-relax-row-requires : tie.Need-relax-row-requires
-relax-row-requires c κs =
+offer-requires : tie.Need-offer-requires
+offer-requires c κs =
     let settled = c .before .before .before .before .before .before in
     let query = start settled .args .query in
     let (formed, (inside, (nobodys, room))) = start settled .pre in
@@ -43,7 +43,7 @@ run-requires c κs =
     let query = start settled .args .query in
     let (formed, (inside, (nobodys, room))) = start settled .pre in
     begun-image (query .df) (image settled) (query .source) (bytes settled) formed inside (placed settled) nobodys
-    (begun .relax-row .ensures) room
+    (begun .offer .ensures) room
 
 pub search-spec : {M : Type 1} → statement M
 search-spec =
@@ -56,7 +56,7 @@ search-spec =
     (λ c. search needs)
     (λ c. search needs)
     (λ c. search needs)
-    relax-row-requires
+    offer-requires
     (λ c. search needs)
     (λ c. search needs)
     (λ c. search needs)

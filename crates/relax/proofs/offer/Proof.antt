@@ -1,8 +1,8 @@
 -- What the cell's function and the leaf's promise, of the key that one hands to the other (`relaxed-by`).
 use Rattle.relax.proofs.Cells.{relaxed-by}
 use Rattle.common.proofs.Ground.{needs}
-use Rattle.relax.proofs.relax_row.Statement.{statement}
-use Rattle.relax.proofs.relax_row.Tie as tie
+use Rattle.relax.proofs.offer.Statement.{statement}
+use Rattle.relax.proofs.offer.Tie as tie
 
 returns : tie.Need-returns
 returns c =
@@ -12,12 +12,10 @@ returns c =
     relaxed-by _ _ _ (cell .before .slot-of .ensures) (leaf .before .page-at .ensures) (told .0) (told .1 .0)
     (told .1 .1) (leaf .lower-leaf .ensures)
 
-pub relax-row-spec : {M : Type 1} → statement M
-relax-row-spec =
+pub offer-spec : {M : Type 1} → statement M
+offer-spec =
     tie.close
     (tie.spec
-    (λ c. search needs)
-    (λ c. search needs)
     (λ c κs. search needs)
     (λ c κs. search needs)
     (λ c κs. search needs)
