@@ -40,10 +40,8 @@ pub fn least_between(keys: &[u64], lo: usize, hi: usize) -> u64
     let mut least = NOBODY;
     let mut i = lo;
     while i + 3 < hi {
-        least = lesser(
-            least,
-            least_of(keys[i], keys[i + 1], keys[i + 2], keys[i + 3]),
-        );
+        let four = least_of(keys[i], keys[i + 1], keys[i + 2], keys[i + 3]);
+        least = lesser(least, four);
         i += 4;
     }
     while i < hi {
