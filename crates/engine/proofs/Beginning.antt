@@ -1,5 +1,5 @@
--- The memory at the start of a search. The source is offered cost 0 on tables in which all entries are nobody's, so that
--- it alone has a time, and waits.
+-- The memory at the start of a search. The source is offered cost 0 on tables in which all entries are nobody's, so
+-- that it alone has a time, and waits.
 use Rattle.common.proofs.Ground.{_≡_, refl, Bool, _≢_, dite, List, ℕ, _+_, _≤_, _<_, arith, ℕ-discrete}
 use Rattle.common.proofs.Ground.{length, getD, replicate, length-replicate, getD-replicate, getD-set-other, eq-eqb}
 use Rattle.common.proofs.Ground.{ne-eqb}

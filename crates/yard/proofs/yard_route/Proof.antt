@@ -36,4 +36,10 @@ returns c =
 pub yard-route-spec : {M : Type 1} → statement M
 yard-route-spec =
     tie.close
-    (tie.spec (λ c κs. search needs) (λ c κs. search needs) tell-requires (λ c. search needs) (λ c. search needs) returns)
+    (tie.spec
+    (λ c κs. search needs)
+    (λ c κs. search needs)
+    tell-requires
+    (λ c. search needs)
+    (λ c. search needs)
+    returns)

@@ -19,7 +19,8 @@ module _ (sought : tie.After-top) where
   abbrev start : tie.Start
   start = sought .before .before .before .before .before .before .before .before .before .before
 
-  least : sought .top .result ≡ leastIn (take (leavesOf (pageCount (now (start .args .image)))) (now (start .args .queue)))
+  least : let pages = pageCount (now (start .args .image)) in
+      sought .top .result ≡ leastIn (take (leavesOf pages) (now (start .args .queue)))
   least = rw (sought .before .page-count .ensures .0) at (sought .top .ensures)
 
 top-requires : tie.Need-top-requires
