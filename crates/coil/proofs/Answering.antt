@@ -4,7 +4,7 @@ use Rattle.common.proofs.Ground.{_≡_, refl, List, ℕ}
 use Rattle.net.specs.Net.{Frame}
 use Rattle.net.specs.Search as net
 use Rattle.net.specs.Search.{State, Halt, going, dfSearch}
-use Rattle.page.specs.Image.{Outcome, accepted, refused, stationCount}
+use Rattle.image.specs.Image.{Outcome, accepted, refused, stationCount}
 use Rattle.search.specs.Reply.{Query, asked, frameOf, pagesOf, NetSearch, Lent, Reply, ended, tooShort, callCheck}
 use Rattle.search.specs.Reply.{onMap, afterCheck, searched}
 use Rattle.coil.specs.Line.{coilOf, lengthOf, stationOf, blank, lineOf, recordLine}

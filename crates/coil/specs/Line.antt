@@ -8,8 +8,8 @@ use lib.ListN.{replicate}
 use lib.Dec.{ltb}
 use Rattle.common.specs.Pick.{pick}
 use Rattle.net.specs.Search.{dfSearch}
-use Rattle.page.specs.Bytes.{word}
-use Rattle.page.specs.Image.{Outcome, accepted, refused}
+use Rattle.image.specs.Bytes.{word}
+use Rattle.image.specs.Image.{Outcome, accepted, refused}
 use Rattle.search.specs.Reply.{Reply, asked, Lent, lent, searched}
 
 -- "Whole numbers are little-endian": the u32 at an offset.

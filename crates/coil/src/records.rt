@@ -2,7 +2,7 @@
 
 ghost use mathlib.Core.Path.{_≡_};
 ghost use Rattle.coil.specs.Line.{long, coilOf, lengthOf, stationOf};
-use page::bytes::word_at;
+use image::bytes::word_at;
 
 pub struct Record {
     pub coil: u32,

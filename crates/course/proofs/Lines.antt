@@ -4,9 +4,10 @@ use Rattle.common.proofs.Ground.{_≡_, refl, List, [], _∷_, ℕ}
 use Rattle.net.specs.Net.{count}
 use Rattle.net.specs.Search.{least, iter, reached, start, choose, chooseOn, readFor, relax, relaxAll, visit, workTurn}
 use Rattle.net.specs.Search.{workThrough, dfVisit, stepBy, searchBy, dfSearch}
-use Rattle.page.specs.Bytes.{allZero}
-use Rattle.page.specs.Image.{directoryOf, pageBytes, firstNotBelow, headingCheck}
-use Rattle.page.specs.Reading.{commandAt, firstOn, nextOn, judgeEnd, judgeStation, judgeMove, judge, judgedAt}
+use Rattle.image.specs.Bytes.{allZero}
+use Rattle.image.specs.Image.{directoryOf, pageBytes, firstNotBelow, headingCheck}
+use Rattle.commands.specs.Commands.{commandAt}
+use Rattle.commands.specs.Rules.{firstOn, nextOn, judgeEnd, judgeStation, judgeMove, judge, judgedAt}
 use Rattle.page.specs.Reading.{readFrom, readPage, movesOf}
 use Rattle.page.specs.Check.{readingOf}
 use Rattle.engine.specs.Map.{mapPage}

@@ -6,7 +6,7 @@ use Prim.Native.Nat.{ℕ}
 use lib.ListN.{take, replicate}
 use Rattle.common.specs.Numbers.{noTime, sourceMark, noPred}
 use Rattle.net.specs.Search.{dfSearch}
-use Rattle.page.specs.Image.{accepted, refused, nowhere}
+use Rattle.image.specs.Image.{accepted, refused, nowhere}
 use Rattle.search.specs.Reply.{asked, reply, Handed, handed, lent}
 use Rattle.search.specs.Promises.{TimesAreLeast, ListAgainstDijkstra, SameOnListedPages}
 use Rattle.course.specs.Cases.{m7, m7Bad, lentFor, ours}

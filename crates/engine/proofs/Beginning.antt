@@ -8,10 +8,10 @@ use Rattle.net.specs.Net.{Frame}
 use Rattle.net.specs.Search.{State, going, timeOf, start, iter}
 use Rattle.net.proofs.Runs.{Standing, run-standing, start-waits}
 use Rattle.layout.specs.Places.{Placed}
-use Rattle.page.specs.Bytes.{Bytes}
-use Rattle.page.specs.Image.{directoryOf, headingCheck, accepted}
-use Rattle.page.proofs.Heading.{formed}
-use Rattle.page.proofs.Parts.{bytes-directory}
+use Rattle.image.specs.Bytes.{Bytes}
+use Rattle.image.specs.Image.{directoryOf, headingCheck, accepted}
+use Rattle.image.proofs.Heading.{formed}
+use Rattle.image.proofs.Parts.{bytes-directory}
 use Rattle.queue.proofs.Groups.{least-empty, empty-groups}
 use Rattle.relax.specs.Cells.{Memory, memory, Room, Relaxed, noCost, Placed as PlacedAt}
 use Rattle.relax.proofs.Rows.{relaxed-room, relaxed-cell, relaxed-other, relaxed-waits, relaxed-waits-other}

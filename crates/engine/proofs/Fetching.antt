@@ -1,8 +1,8 @@
 -- A page that is read, and found good, is known from then on, and so are the pages that were known before.
 use Rattle.common.proofs.Ground.{_≡_, refl, _≢_, dite, List, ℕ, ℕ-discrete, length, getD}
-use Rattle.page.specs.declared.Move.{Move}
+use Rattle.commands.specs.declared.Move.{Move}
 use Rattle.page.specs.declared.Verdict.{Verdict}
-use Rattle.page.specs.Image.{directoryOf}
+use Rattle.image.specs.Image.{directoryOf}
 use Rattle.page.specs.Reading.{Reading, Leaving, good, bad}
 use Rattle.page.specs.Check.{readingOf, verdictOf}
 use Rattle.page.specs.Laying.{PageLaid, OthersKept}

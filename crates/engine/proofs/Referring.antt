@@ -9,7 +9,7 @@ use Rattle.net.specs.Search.{refused, withPage}
 use Rattle.net.specs.Run.{turnLimit, firstWaiting}
 use Rattle.net.proofs.Steps.Waiting.{first-lowest}
 use Rattle.net.proofs.Runs.{reference-inside, reference-listed, reference-bad, hand-begins}
-use Rattle.page.specs.declared.Move.{Move}
+use Rattle.commands.specs.declared.Move.{Move}
 use Rattle.page.specs.Reading.{movesOf, bad}
 use Rattle.page.specs.Laying.{rowFor}
 use Rattle.page.specs.Check.{readingOf}

@@ -4,13 +4,13 @@ use Rattle.common.proofs.Ground.{List·Memᴰ·not-nil, ℕ, _+_, _≤_, _<_, a
 use Rattle.net.specs.Net.{movesOf, Move as NetMove}
 use Rattle.net.proofs.Sound.{Sound}
 use Rattle.net.proofs.Laws.{map-sound}
-use Rattle.page.specs.declared.Move.{Move}
-use Rattle.page.specs.Bytes.{Bytes}
-use Rattle.page.specs.Image.{directoryOf, headingCheck, accepted}
+use Rattle.commands.specs.declared.Move.{Move}
+use Rattle.image.specs.Bytes.{Bytes}
+use Rattle.image.specs.Image.{directoryOf, headingCheck, accepted}
 use Rattle.page.specs.Reading.{Reading, good, bad, movesOf as stationMoves}
 use Rattle.page.specs.Check.{readingOf}
 use Rattle.page.specs.Good.{GoodMoves}
-use Rattle.page.proofs.Heading.{formed}
+use Rattle.image.proofs.Heading.{formed}
 use Rattle.page.proofs.Good.Moves.{image-moves-good}
 use Rattle.engine.specs.Map.{mapFrame, netMove, offered, mapPage}
 

@@ -5,8 +5,8 @@ use lib.ListN.{length, getD}
 use Rattle.common.specs.Numbers.{noTime}
 use Rattle.net.specs.Net.{Frame, Page, good, bad}
 use Rattle.net.specs.Net.{Move as NetMove}
-use Rattle.page.specs.declared.Move.{Move}
-use Rattle.page.specs.Image.{directoryOf}
+use Rattle.commands.specs.declared.Move.{Move}
+use Rattle.image.specs.Image.{directoryOf}
 use Rattle.page.specs.Reading.{Reading, movesOf}
 use Rattle.page.specs.Reading.{good as read-good, bad as read-bad}
 use Rattle.page.specs.Check.{readingOf}

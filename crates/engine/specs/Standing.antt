@@ -8,10 +8,10 @@ use lib.ListN.{length, getD, set}
 use Rattle.net.specs.declared.Choice.the-variants.{Nobody}
 use Rattle.net.specs.Search.{refused}
 use Rattle.net.specs.Run.{firstWaiting}
-use Rattle.page.specs.declared.Move.{Move}
+use Rattle.commands.specs.declared.Move.{Move}
 use Rattle.page.specs.declared.Verdict.{Verdict}
 use Rattle.page.specs.declared.Verdict.the-variants.{Good, Bad}
-use Rattle.page.specs.Image.{directoryOf, pageCount, headingCheck, accepted}
+use Rattle.image.specs.Image.{directoryOf, pageCount, headingCheck, accepted}
 use Rattle.page.specs.Reading.{Leaving, good, bad}
 use Rattle.page.specs.Check.{readingOf}
 use Rattle.page.specs.Laying.{PageLaid}

@@ -3,7 +3,7 @@
 ghost use mathlib.Core.Path.{_≡_};
 ghost use Prim.Native.Nat.{_<_};
 ghost use lib.ListN.{length, getD};
-ghost use Rattle.page.specs.Image.{directoryOf};
+ghost use Rattle.image.specs.Image.{directoryOf};
 ghost use Rattle.layout.specs.Places.{Placed};
 ghost use Rattle.engine.specs.Standing.{Known, Fetched};
 use layout::moves::end_of;

@@ -2,12 +2,12 @@
 -- over the commands read, each of which ends within the page.
 use Rattle.common.proofs.Ground.{not, _||_, List, ℕ, zero, suc, _+_, _*_, _≤_, arith, length, ltb, eqb}
 use Rattle.common.proofs.Cases.{by-pick}
-use Rattle.page.specs.declared.Move.{Move}
-use Rattle.page.specs.Image.{Outcome, accepted, refused, nowhere, at-station, on-page, headingCheck, stationCount}
-use Rattle.page.specs.Image.{pageCount, directoryOf, pageBytes, firstNotBelow}
+use Rattle.commands.specs.declared.Move.{Move}
+use Rattle.image.specs.Image.{Outcome, accepted, refused, nowhere, at-station, on-page, headingCheck, stationCount}
+use Rattle.image.specs.Image.{pageCount, directoryOf, pageBytes, firstNotBelow}
 use Rattle.page.specs.Reading.{Reading, good, bad, withMove, withStation, readPage}
 use Rattle.page.specs.Check.{readingOf, pageOutcome, pagesFrom, afterHeading, wholeCheck}
-use Rattle.page.proofs.Parts.{page-short}
+use Rattle.image.proofs.Parts.{page-short}
 use Rattle.page.proofs.Reading.Steps.{by-commands}
 
 -- A reading whose fault, if it has one, stands at an offset up to a limit.

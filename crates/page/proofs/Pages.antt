@@ -3,7 +3,7 @@
 use Rattle.common.proofs.Ground.{_≡_, refl, List, ℕ, suc, _+_, _-_, _≤_, _<_, arith, add-one}
 use Rattle.page.specs.declared.Verdict.{Verdict}
 use Rattle.page.specs.declared.Verdict.the-variants.{Good, Bad}
-use Rattle.page.specs.Image.{Outcome, accepted, refused, on-page}
+use Rattle.image.specs.Image.{Outcome, accepted, refused, on-page}
 use Rattle.page.specs.Reading.{Reading, good, bad}
 use Rattle.page.specs.Check.{readingOf, verdictOf, pageOutcome, pagesFrom}
 

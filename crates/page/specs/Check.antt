@@ -3,7 +3,7 @@ use mathlib.Core.List.{List}
 use Prim.Native.Nat.{ℕ, zero, suc}
 use Rattle.page.specs.declared.Verdict.{Verdict}
 use Rattle.page.specs.declared.Verdict.the-variants.{Good, Bad}
-use Rattle.page.specs.Image.{Outcome, accepted, refused, on-page, headingCheck, directoryOf, pageBytes, pageCount}
+use Rattle.image.specs.Image.{Outcome, accepted, refused, on-page, headingCheck, directoryOf, pageBytes, pageCount}
 use Rattle.page.specs.Reading.{Reading, good, bad, readPage}
 
 -- What reading page p of an image gives, and what the reader's answer says of it.

@@ -6,7 +6,7 @@ use mathlib.Core.List.{List, map}
 use Prim.Native.Nat.{ℕ, _<_}
 use lib.ListN.{length, getD}
 use Rattle.layout.specs.Rows.{entryOf, endOf, Laid}
-use Rattle.page.specs.declared.Move.{Move}
+use Rattle.commands.specs.declared.Move.{Move}
 use Rattle.page.specs.Reading.{Leaving, movesOf}
 
 -- Moves as the entries of a row: which moves are laid out, and how, is said here and nowhere else.

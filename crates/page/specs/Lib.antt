@@ -1,5 +1,3 @@
-pub mod Bytes
-pub mod Image
 pub mod Reading
 pub mod Check
 pub mod Good

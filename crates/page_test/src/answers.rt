@@ -1,12 +1,12 @@
 // The answers of the page crate in one shape, and their text.
 
+use image::Checked;
+use image::Place;
+use image::Refusal;
+use image::page_of;
 use layout::moves::LAYOUT;
 use libc::STDOUT_FILENO;
-use page::Checked;
-use page::Place;
-use page::Refusal;
 use page::Verdict;
-use page::image::page_of;
 use page::reader::read_page;
 ghost use Rattle.layout.specs.Places.{Placed};
 

@@ -4,8 +4,8 @@ use Rattle.common.proofs.Ground.{_*_, _≤_, _<_, arith, length, ltb, leb, eqb,
 use Rattle.common.proofs.Ground.{leb-false}
 use Rattle.common.specs.Pick.{pick}
 use Rattle.common.proofs.Cases.{never}
-use Rattle.page.specs.Image.{Outcome, accepted, refused, Place, nowhere, at-station, on-page}
-use Rattle.page.specs.Image.{stationCount, pageCount, directoryOf, firstNotBelow, headingCheck}
+use Rattle.image.specs.Image.{Outcome, accepted, refused, Place, nowhere, at-station, on-page}
+use Rattle.image.specs.Image.{stationCount, pageCount, directoryOf, firstNotBelow, headingCheck}
 use Rattle.page.specs.Check.{afterHeading}
 use Rattle.search.specs.Reply.{Query, Lent, tooShort, callCheck}
 

@@ -7,8 +7,8 @@ use Rattle.common.proofs.Windows.{lent-front}
 use Rattle.net.specs.Net.{Frame}
 use Rattle.net.specs.Search.{State}
 use Rattle.net.specs.Run.{searchOf}
-use Rattle.page.specs.Bytes.{Bytes}
-use Rattle.page.specs.Image.{stationCount}
+use Rattle.image.specs.Bytes.{Bytes}
+use Rattle.image.specs.Image.{stationCount}
 use Rattle.engine.specs.declared.Ended.{Ended}
 use Rattle.engine.specs.declared.Ended.the-variants.{Over, BadPage}
 use Rattle.engine.specs.Ending.{Listed, EndedAs}

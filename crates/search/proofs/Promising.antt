@@ -11,10 +11,11 @@ use Rattle.net.specs.Search as net
 use Rattle.net.specs.Search.{State, Halt, going, reached, plainSearch, dfSearch}
 use Rattle.net.specs.Run.{searchOf}
 use Rattle.net.proofs.Laws.{same-halt, same-tables, same-reached, df-list}
-use Rattle.page.specs.Bytes.{Bytes}
-use Rattle.page.specs.Image.{Outcome, accepted, refused, on-page, stationCount}
-use Rattle.page.specs.Image.{AgreeOnHeading, AgreeOnDirectory, AgreeOnPage}
-use Rattle.page.proofs.Agree.{stations-agree, heading-agrees, reading-agrees}
+use Rattle.image.specs.Bytes.{Bytes}
+use Rattle.image.specs.Image.{Outcome, accepted, refused, on-page, stationCount}
+use Rattle.image.specs.Image.{AgreeOnHeading, AgreeOnDirectory, AgreeOnPage}
+use Rattle.image.proofs.Agree.{stations-agree, heading-agrees}
+use Rattle.page.proofs.Agree.{reading-agrees}
 use Rattle.engine.specs.Map.{frame, offered, mapPage}
 use Rattle.search.specs.Reply.{Query, withImage, frameOf, pagesOf, Lent, Handed, reply, ended, tooShort}
 use Rattle.search.specs.Reply.{callCheck, onMap, afterCheck, searched, listOf}

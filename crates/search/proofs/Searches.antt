@@ -7,9 +7,9 @@ use Rattle.net.specs.Demands.{LeastTimes, RefusedPage, AgreeOn}
 use Rattle.net.proofs.Sound.{Sound}
 use Rattle.net.proofs.Laws.{plain-least-times, df-least-times, plain-refused, df-refused, plain-short, df-short}
 use Rattle.net.proofs.Laws.{plain-local, df-local}
-use Rattle.page.specs.Bytes.{Bytes}
-use Rattle.page.specs.Image.{stationCount}
-use Rattle.page.proofs.Heading.{formed}
+use Rattle.image.specs.Bytes.{Bytes}
+use Rattle.image.specs.Image.{stationCount}
+use Rattle.image.proofs.Heading.{formed}
 use Rattle.engine.proofs.Soundness.{image-sound}
 use Rattle.search.specs.Reply.{Query, frameOf, pagesOf, Lent}
 use Rattle.search.proofs.Checking.{Admitted}

@@ -9,7 +9,7 @@ use lib.Dec.{ltb, eqb}
 use Rattle.common.specs.Numbers.{noTime, sourceMark, noPred, nobody}
 use Rattle.common.specs.Pick.{pick}
 use Rattle.net.specs.Net.{count}
-use Rattle.page.specs.Image.{accepted, refused, on-page}
+use Rattle.image.specs.Image.{accepted, refused, on-page}
 use Rattle.engine.specs.declared.Ended.{Ended}
 use Rattle.engine.specs.declared.Ended.the-variants.{Over, BadPage}
 use Rattle.search.specs.Reply.{Reply, reply}

@@ -6,7 +6,7 @@ use Prim.Native.Nat.{ℕ}
 use lib.ListN.{length, take}
 use Rattle.net.specs.Search.{plainSearch, dfSearch}
 use Rattle.net.specs.Demands.{LeastTimes, RefusedPage, ListOf}
-use Rattle.page.specs.Image.{accepted, refused, on-page, stationCount, AgreeOnHeading, AgreeOnDirectory, AgreeOnPage}
+use Rattle.image.specs.Image.{accepted, refused, on-page, stationCount, AgreeOnHeading, AgreeOnDirectory, AgreeOnPage}
 use Rattle.search.specs.Reply.{Query, withImage, frameOf, pagesOf, NetSearch, Lent, Handed, searched, listOf}
 
 -- Tables of the same lengths.

@@ -11,7 +11,7 @@ use Rattle.common.specs.Window.{placed}
 use Rattle.net.specs.Net.{Frame, Page}
 use Rattle.net.specs.Search as net
 use Rattle.net.specs.Search.{State, Halt, going, reached}
-use Rattle.page.specs.Image.{Outcome, accepted, refused, nowhere, on-page, placeOf, stationCount, headingCheck}
+use Rattle.image.specs.Image.{Outcome, accepted, refused, nowhere, on-page, placeOf, stationCount, headingCheck}
 use Rattle.page.specs.Check.{afterHeading}
 use Rattle.engine.specs.Map.{mapFrame, mapPage}
 use Rattle.search.specs.declared.Answer.{Answer}

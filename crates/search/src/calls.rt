@@ -7,7 +7,7 @@ ghost use mathlib.Core.Bool.{not, _||_};
 ghost use lib.Dec.{ltb};
 ghost use Rattle.net.specs.Run.{searchOf};
 ghost use Rattle.net.specs.Search.{plainSearch};
-ghost use Rattle.page.specs.Image.{accepted, outcomeOf};
+ghost use Rattle.image.specs.Image.{accepted, outcomeOf};
 ghost use Rattle.search.specs.Reply.{asked, lent, returned, sixOrSeven, callCheck, onMap, searched};
 ghost use Rattle.search.specs.Promises.{Promised, DfPromised};
 use super::Answer;
@@ -16,11 +16,11 @@ use super::finish::finish;
 use super::finish::is_over;
 use common::NOBODY;
 use engine::Query;
-use page::Checked;
-use page::Place;
-use page::image::check_heading;
-use page::image::refuse;
-use page::image::station_count;
+use image::Checked;
+use image::Place;
+use image::check_heading;
+use image::refuse;
+use image::station_count;
 
 // Whether a table has no entry for some of n stations: 7.
 fn too_short(n: usize, times: usize, preds: usize, marks: usize, list: usize) -> bool

@@ -15,8 +15,8 @@ use common::NO_TIME;
 use common::NOBODY;
 use common::SOURCE;
 use engine::Ended;
-use page::Place;
-use page::Refusal;
+use image::Place;
+use image::Refusal;
 
 // Whether a search ended with nobody left to wait, and not by a bad page.
 pub fn is_over(ended: Ended) -> bool

@@ -1,8 +1,8 @@
 // The text of an answer: `accepted, count 3, reached 7`, or the refusal's number with the place that it names.
 
+use image::Place;
+use image::Refusal;
 use libc::STDOUT_FILENO;
-use page::Place;
-use page::Refusal;
 use search::Answer;
 
 // Prints a number behind some text.

@@ -12,9 +12,9 @@ mod tables;
 
 use answers::print_answer;
 use answers::print_number;
+use image::bytes::word_at;
 use libc::STDIN_FILENO;
 use libc::STDOUT_FILENO;
-use page::bytes::word_at;
 use search::Answer;
 use tables::fill;
 use tables::print_tables;

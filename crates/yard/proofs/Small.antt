@@ -10,8 +10,8 @@ use Rattle.net.specs.Search as net
 use Rattle.net.specs.Search.{State, Halt, going, reached, hasTime}
 use Rattle.net.specs.Run.{searchOf}
 use Rattle.net.proofs.Basics.Count.{count-le}
-use Rattle.page.specs.Bytes.{Bytes}
-use Rattle.page.specs.Image.{Outcome, accepted, refused, Place, nowhere, at-station, on-page}
+use Rattle.image.specs.Bytes.{Bytes}
+use Rattle.image.specs.Image.{Outcome, accepted, refused, Place, nowhere, at-station, on-page}
 use Rattle.page.specs.Reading as page
 use Rattle.page.specs.Reading.{Reading}
 use Rattle.page.specs.Check.{readingOf, wholeCheck}

@@ -2,7 +2,7 @@
 -- which the search's promise holds.
 use Rattle.common.proofs.Ground.{_≡_, ap, sym, _∙_, subst, Bool, List, ℕ}
 use Rattle.net.specs.Run.{searchOf}
-use Rattle.page.specs.Bytes.{Bytes}
+use Rattle.image.specs.Bytes.{Bytes}
 use Rattle.search.specs.Reply.{Query, Lent, Reply, Handed, handed, searched}
 use Rattle.yard.specs.Numbers.{Told, toldBy, ofSearch, Small}
 use Rattle.yard.proofs.Small.{small-search}

@@ -4,7 +4,7 @@ use Prim.Native.Nat.{ℕ, _≤_}
 use lib.Dec.{ltb}
 use lib.ListN.{length, drop}
 use Rattle.common.specs.Pick.{pick}
-use Rattle.page.specs.Image.{nowhere, at-station, on-page, Outcome, accepted, refused}
+use Rattle.image.specs.Image.{nowhere, at-station, on-page, Outcome, accepted, refused}
 use Rattle.route.specs.Route as route
 use Rattle.search.specs.Reply.{Reply}
 use Rattle.yard.specs.declared.Numbers.{Numbers}

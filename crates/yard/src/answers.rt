@@ -1,14 +1,14 @@
 // Answers told to a C caller: each as its status and four numbers, which are put into the answer where it has room.
 
 ghost use mathlib.Core.Path.{_≡_};
-ghost use Rattle.page.specs.Image.{refused, placeOf, outcomeOf};
+ghost use Rattle.image.specs.Image.{refused, placeOf, outcomeOf};
 ghost use Rattle.search.specs.Reply.{replyOf};
 ghost use Rattle.route.specs.Route.{meaning};
 ghost use Rattle.yard.specs.Numbers.{numbers, told, toldBy, ofOutcome, ofCheck, ofSearch, ofRoute, Small};
 use super::Numbers;
-use page::Checked;
-use page::Place;
-use page::Refusal;
+use image::Checked;
+use image::Place;
+use image::Refusal;
 use route::RouteAnswer;
 use search::Answer;
 

@@ -2,13 +2,13 @@
 -- a second. For the crates above, which never see how a page is spelled.
 use Rattle.common.proofs.Ground.{_≡_, subst, List, [], _∷_, ℕ, length, eqb, eqb-true}
 use Rattle.common.proofs.Cases.{by-pick}
-use Rattle.page.specs.declared.Move.{Move}
-use Rattle.page.specs.Bytes.{Bytes}
-use Rattle.page.specs.Image.{directoryOf, pageBytes}
+use Rattle.commands.specs.declared.Move.{Move}
+use Rattle.image.specs.Bytes.{Bytes}
+use Rattle.image.specs.Image.{directoryOf, pageBytes}
 use Rattle.page.specs.Reading.{good, Leaving, movesOf}
 use Rattle.page.specs.Check.{readingOf}
 use Rattle.page.specs.Good.{GoodMoves, GoodStations}
-use Rattle.page.proofs.Parts.{bytes-page}
+use Rattle.image.proofs.Parts.{bytes-page}
 use Rattle.page.proofs.Good.Promise.{promise}
 
 moves-good : (size : ℕ) (stations : List Leaving) (u : ℕ) → GoodStations size stations

@@ -3,10 +3,11 @@
 use Rattle.common.proofs.Ground.{_≡_, refl, ap, sym, _∙_, subst, true, ⊎-elim, List, [], _∷_, ℕ, suc, _+_, _-_, _/_}
 use Rattle.common.proofs.Ground.{_%_, arith, length, drop, replicate, length-drop, eqb, eqb-true}
 use Rattle.common.proofs.Cases.{by-pick, never}
-use Rattle.page.specs.declared.Move.{Move}
-use Rattle.page.specs.declared.Command.the-variants.{End, Station, MoveTo}
-use Rattle.page.specs.Bytes.{allZero, Bytes}
-use Rattle.page.specs.Reading.{Reading, good, bad, Leaving, withMove, withStation, widthOf, readPage}
+use Rattle.commands.specs.declared.Move.{Move}
+use Rattle.commands.specs.declared.Command.the-variants.{End, Station, MoveTo}
+use Rattle.image.specs.Bytes.{allZero, Bytes}
+use Rattle.page.specs.Reading.{Reading, good, bad, Leaving, withMove, withStation, readPage}
+use Rattle.commands.specs.Commands.{widthOf}
 use Rattle.page.specs.Good.{GoodMoves, GoodStations, names, GoodContent, spellMove, spellMoves, spellStations}
 use Rattle.page.specs.Good.{spelled}
 use Rattle.page.proofs.Reading.Steps.{Found, by-commands}

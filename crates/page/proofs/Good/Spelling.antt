@@ -2,12 +2,12 @@
 -- that spell a command read as that command.
 use Rattle.common.proofs.Ground.{_≡_, ap, sym, _∙_, List, _∷_, ℕ, suc, _+_, _/_, _%_, _<_, arith, add-zero, length}
 use Rattle.common.proofs.Ground.{getD, drop, length-drop, drop-cons, getD-drop}
-use Rattle.page.specs.declared.Move.{Move}
-use Rattle.page.specs.declared.Command.the-variants.{End, Station, MoveTo}
-use Rattle.page.specs.Bytes.{word, Bytes}
-use Rattle.page.specs.Reading.{widthOf, commandAt}
+use Rattle.commands.specs.declared.Move.{Move}
+use Rattle.commands.specs.declared.Command.the-variants.{End, Station, MoveTo}
+use Rattle.image.specs.Bytes.{word, Bytes}
+use Rattle.commands.specs.Commands.{widthOf, commandAt}
 use Rattle.page.specs.Good.{spellMove}
-use Rattle.page.proofs.Reading.Lengths.{Stands, command-end, command-station, command-move}
+use Rattle.commands.proofs.Lengths.{Stands, command-end, command-station, command-move}
 
 module _ (page : List ℕ) (at : ℕ) where
   -- one byte, and the rest

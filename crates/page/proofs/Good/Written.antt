@@ -4,14 +4,16 @@
 use Rattle.common.proofs.Ground.{_≡_, refl, ap, sym, _∙_, true, ⊎-elim, List, [], _∷_, ℕ, zero, suc, _+_, _-_, _<_, _≤_}
 use Rattle.common.proofs.Ground.{arith, length, drop, replicate, length-drop, length-replicate, drop-drop}
 use Rattle.common.proofs.Cases.{never}
-use Rattle.page.specs.declared.Move.{Move}
-use Rattle.page.specs.declared.Command.{Command}
-use Rattle.page.specs.declared.Command.the-variants.{End, Station, MoveTo}
-use Rattle.page.specs.Bytes.{Bytes, allZero}
-use Rattle.page.specs.Reading.{Reading, good, Leaving, withMove, withStation, readFrom, readPage, widthOf}
-use Rattle.page.specs.Reading.{commandAt, nextOn}
+use Rattle.commands.specs.declared.Move.{Move}
+use Rattle.commands.specs.declared.Command.{Command}
+use Rattle.commands.specs.declared.Command.the-variants.{End, Station, MoveTo}
+use Rattle.image.specs.Bytes.{Bytes, allZero}
+use Rattle.page.specs.Reading.{Reading, good, Leaving, withMove, withStation, readFrom, readPage}
+use Rattle.commands.specs.Commands.{widthOf}
+use Rattle.commands.specs.Commands.{commandAt}
+use Rattle.commands.specs.Rules.{nextOn}
 use Rattle.page.specs.Good.{GoodMoves, GoodStations, names, GoodContent, spellMoves, spellStations, spelled}
-use Rattle.page.proofs.Reading.Judging.{Keeps, passes}
+use Rattle.commands.proofs.Judging.{Keeps, passes}
 use Rattle.page.proofs.Reading.Steps.{reading, read-step}
 use Rattle.page.proofs.Good.Stations.{listed, listed-cases}
 use Rattle.page.proofs.Good.Promise.{promise}

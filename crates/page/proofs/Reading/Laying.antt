@@ -7,7 +7,7 @@ use Rattle.common.proofs.Ground.{append-assoc, ℕ, _+_, _-_, _*_, _≤_, _<_, 
 use Rattle.common.proofs.Ground.{set, length-set, getD-set-same}
 use Rattle.layout.specs.Rows.{entryOf, beginOf, endOf, Laid}
 use Rattle.layout.proofs.Rows.{between-more, begin-kept, end-kept, laid-kept, laid-end, laid-new}
-use Rattle.page.specs.declared.Move.{Move}
+use Rattle.commands.specs.declared.Move.{Move}
 use Rattle.page.specs.Laying.{rowFor, OthersKept}
 
 -- Entry k is in the room of page p, or behind it.

@@ -8,16 +8,18 @@ use Rattle.layout.specs.Places.{Placed, firstSlot, slotOf}
 use Rattle.layout.specs.Rows.{entryOf, endOf}
 use Rattle.layout.specs.Due.{Due, Next}
 use Rattle.layout.proofs.Due.{due-start, due-step, next-is-due}
-use Rattle.page.specs.declared.Move.{Move}
-use Rattle.page.specs.declared.Command.{Command}
-use Rattle.page.specs.declared.Command.the-variants.{End, Station, MoveTo}
-use Rattle.page.specs.Reading.{Reading, good, bad, Leaving, withMove, withStation, movesOf, lengthOf, widthOf}
-use Rattle.page.specs.Reading.{nextOn, readFrom, readPage}
+use Rattle.commands.specs.declared.Move.{Move}
+use Rattle.commands.specs.declared.Command.{Command}
+use Rattle.commands.specs.declared.Command.the-variants.{End, Station, MoveTo}
+use Rattle.page.specs.Reading.{Reading, good, bad, Leaving, withMove, withStation, movesOf}
+use Rattle.commands.specs.Commands.{lengthOf, widthOf}
+use Rattle.commands.specs.Rules.{nextOn}
+use Rattle.page.specs.Reading.{readFrom, readPage}
 use Rattle.page.specs.Check.{verdictOf}
 use Rattle.page.specs.Laying.{PageLaid, OthersKept}
-use Rattle.page.proofs.Reading.Judging.{judged}
+use Rattle.commands.proofs.Judging.{judged}
 use Rattle.page.proofs.Reading.Steps.{foundAt, Found, reading, read-step}
-use Rattle.page.proofs.Reading.Due.{none-before-next, next-is}
+use Rattle.commands.proofs.Due.{none-before-next, next-is}
 use Rattle.page.proofs.Reading.Laying.{Room, Row, written, length-written, end-own, row-begun, row-more}
 use Rattle.page.proofs.Reading.Laying.{row-kept, others-kept}
 

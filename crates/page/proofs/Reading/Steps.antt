@@ -1,11 +1,13 @@
 -- One command read is one step of the definition's recursion. So what holds of every reading by its first command, if
 -- it holds of what is read behind that command, holds of every reading.
 use Rattle.common.proofs.Ground.{_≡_, refl, ap, _∙_, List, [], ℕ, zero, suc, _+_, _-_, _≤_, arith, length}
-use Rattle.page.specs.declared.Move.{Move}
-use Rattle.page.specs.declared.Command.{Command}
-use Rattle.page.specs.declared.Command.the-variants.{End, Station, MoveTo, Fault}
-use Rattle.page.specs.Reading.{Reading, good, bad, withMove, withStation, widthOf, nextOn, judgedAt, readFrom}
-use Rattle.page.proofs.Reading.Judging.{Judged, judged}
+use Rattle.commands.specs.declared.Move.{Move}
+use Rattle.commands.specs.declared.Command.{Command}
+use Rattle.commands.specs.declared.Command.the-variants.{End, Station, MoveTo, Fault}
+use Rattle.page.specs.Reading.{Reading, good, bad, withMove, withStation, readFrom}
+use Rattle.commands.specs.Commands.{widthOf}
+use Rattle.commands.specs.Rules.{nextOn, judgedAt}
+use Rattle.commands.proofs.Judging.{Judged, judged}
 
 module _ (directory : List ℕ) (p : ℕ) (page : List ℕ) where
   -- What is judged at an offset, and the reading that begins with it.

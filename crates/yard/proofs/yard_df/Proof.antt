@@ -1,6 +1,6 @@
 -- What `df` promises, of the reply that the numbers tell (proofs/Told.antt).
 use Rattle.common.proofs.Ground.{true, arith, now, needs}
-use Rattle.page.specs.Bytes.{Bytes}
+use Rattle.image.specs.Bytes.{Bytes}
 use Rattle.search.specs.Reply.{Query, asked, Lent, lent}
 use Rattle.search.specs.Promises.{DfPromised}
 use Rattle.yard.proofs.Told.{small-numbers, told-promised}

@@ -1,6 +1,6 @@
 -- What `plain` promises, of the reply that the numbers tell (proofs/Told.antt).
 use Rattle.common.proofs.Ground.{false, arith, now, needs}
-use Rattle.page.specs.Bytes.{Bytes}
+use Rattle.image.specs.Bytes.{Bytes}
 use Rattle.net.specs.Search.{plainSearch}
 use Rattle.search.specs.Reply.{Query, asked, Lent, lent}
 use Rattle.search.specs.Promises.{Promised}

@@ -3,7 +3,7 @@
 use Rattle.common.proofs.Ground.{_≡_, refl, subst, List, ℕ, arith, take, now, needs}
 use Rattle.page.specs.declared.Verdict.{Verdict}
 use Rattle.page.specs.declared.Verdict.the-variants.{Good}
-use Rattle.page.specs.Image.{pageCount}
+use Rattle.image.specs.Image.{pageCount}
 use Rattle.queue.specs.Keys.{leastIn}
 use Rattle.queue.specs.Queue.{leavesOf}
 use Rattle.relax.specs.Cells.{Memory, memory}

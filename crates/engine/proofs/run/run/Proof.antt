@@ -2,7 +2,7 @@
 -- nobody waits, or at a bad page, and that is the end of the search. It does end, as the net's run makes no more
 -- references than there are stations. The tables keep their lengths.
 use Rattle.common.proofs.Ground.{_≡_, subst, _-_, arith, length, now, needs}
-use Rattle.page.specs.Image.{directoryOf}
+use Rattle.image.specs.Image.{directoryOf}
 use Rattle.relax.specs.Cells.{memory}
 use Rattle.engine.specs.declared.Reference.{Reference}
 use Rattle.engine.specs.Standing.{serving, Referred}

@@ -1,10 +1,10 @@
 -- The stations are placed by the directory, and only the source is written into cells, keys and queue that are
 -- nobody's. So a search on the image may begin (proofs/Beginning.antt), and the search ends as the run does.
 use Rattle.common.proofs.Ground.{refl, ap, List, ℕ, arith, length, now, needs}
-use Rattle.page.specs.Bytes.{Bytes}
-use Rattle.page.specs.Image.{directoryOf}
+use Rattle.image.specs.Bytes.{Bytes}
+use Rattle.image.specs.Image.{directoryOf}
 use Rattle.layout.specs.Places.{Placed}
-use Rattle.page.proofs.Heading.{formed}
+use Rattle.image.proofs.Heading.{formed}
 use Rattle.engine.proofs.Beginning.{begin-asks, begun-image}
 use Rattle.engine.proofs.run.search.Statement.{statement}
 use Rattle.engine.proofs.run.search.Tie as tie

@@ -1,6 +1,6 @@
 -- One more turn than stations, or one: by the flag.
 use Rattle.common.proofs.Ground.{arith, needs}
-use Rattle.page.proofs.Heading.{formed}
+use Rattle.image.proofs.Heading.{formed}
 use Rattle.engine.proofs.run.turns_of.Statement.{statement}
 use Rattle.engine.proofs.run.turns_of.Tie as tie
 

@@ -1,9 +1,9 @@
 -- By what the check of the heading answers: accepted, it bounds the numbers of stations and pages, as the check of
 -- the pages requires, and that check decides; refused, the refusal is the outcome.
 use Rattle.common.proofs.Ground.{_≡_, sym, ap, _∙_, now, needs}
-use Rattle.page.specs.Image.{accepted, headingCheck, outcomeOf}
+use Rattle.image.specs.Image.{accepted, headingCheck, outcomeOf}
 use Rattle.page.specs.Check.{wholeCheck}
-use Rattle.page.proofs.Heading.{formed}
+use Rattle.image.proofs.Heading.{formed}
 use Rattle.page.proofs.whole.check.Statement.{statement}
 use Rattle.page.proofs.whole.check.Tie as tie
 

@@ -1,9 +1,9 @@
 -- The loop's invariant: the pages from p on decide as all the pages do, and the layout keeps its length. A page read as
 -- good hands on to the next one, and the first that is bad is the outcome (proofs/Pages.antt).
 use Rattle.common.proofs.Ground.{_≡_, refl, ap, sym, _∙_, _-_, arith, sub-zero, length, now, needs}
-use Rattle.page.specs.Image.{pageCount}
+use Rattle.image.specs.Image.{pageCount}
 use Rattle.page.specs.Check.{pagesFrom}
-use Rattle.page.proofs.Parts.{directory-most}
+use Rattle.image.proofs.Parts.{directory-most}
 use Rattle.page.proofs.Pages.{pages-step, pages-end}
 use Rattle.page.proofs.whole.check_pages.Statement.{statement}
 use Rattle.page.proofs.whole.check_pages.Tie as tie

@@ -1,7 +1,7 @@
 -- Refusals 1 to 7 decide: passed, the search on the map speaks; refused, that refusal is the answer, and no table is
 -- touched.
 use Rattle.common.proofs.Ground.{ap, sym, _∙_, needs}
-use Rattle.page.specs.Image.{outcomeOf}
+use Rattle.image.specs.Image.{outcomeOf}
 use Rattle.search.specs.Reply.{searched}
 use Rattle.search.proofs.calls.search.Statement.{statement}
 use Rattle.search.proofs.calls.search.Tie as tie

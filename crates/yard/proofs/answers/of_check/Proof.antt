@@ -1,6 +1,6 @@
 -- Each case of the answer has its numbers by the definition.
 use Rattle.common.proofs.Ground.{ap, sym, _∙_, needs}
-use Rattle.page.specs.Image.{outcomeOf}
+use Rattle.image.specs.Image.{outcomeOf}
 use Rattle.yard.specs.Numbers.{ofCheck}
 use Rattle.yard.proofs.answers.of_check.Statement.{statement}
 use Rattle.yard.proofs.answers.of_check.Tie as tie

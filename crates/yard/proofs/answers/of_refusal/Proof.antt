@@ -1,7 +1,7 @@
 -- The numbers go by the place.
 use Rattle.common.proofs.Ground.{ap, sym, _∙_, needs}
-use Rattle.page.specs.declared.Place.{Place}
-use Rattle.page.specs.Image.{refused, placeOf}
+use Rattle.image.specs.declared.Place.{Place}
+use Rattle.image.specs.Image.{refused, placeOf}
 use Rattle.yard.specs.declared.Numbers.{Numbers}
 use Rattle.yard.specs.Numbers.{ofOutcome}
 use Rattle.yard.proofs.answers.of_refusal.Statement.{statement}

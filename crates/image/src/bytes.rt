@@ -1,0 +1,67 @@
+// Numbers and parts of a byte slice. What lies past the end reads as 0, or as nothing.
+
+ghost use mathlib.Core.Path.{_≡_};
+ghost use Prim.Native.Nat.{_+_, _*_, _<_};
+ghost use lib.ListN.{length, getD, drop};
+ghost use Rattle.image.specs.Bytes.{word, part, allZero};
+
+pub fn byte_at(s: &[u8], at: usize) -> u8
+    ensures value { λ r. ⌜ r ≡ getD (now (s .entry)) at 0 ⌝ }
+{
+    if at < s.len() { s[at] } else { 0 }
+}
+
+// A u16 by its two bytes.
+fn joined(low: u8, high: u8) -> u16
+    ensures value { λ r. ⌜ r ≡ low + 256 * high ⌝ }
+{
+    low as u16 + 256 * (high as u16)
+}
+
+// The u16 at an offset, little-endian.
+pub fn word_at(s: &[u8], at: usize) -> u16
+    ensures value { λ r. ⌜ r ≡ word (now (s .entry)) at ⌝ }
+{
+    if s.len() <= at {
+        return 0;
+    }
+    joined(byte_at(s, at), byte_at(s, at + 1))
+}
+
+// The same where both of its bytes are there.
+pub fn word_within(s: &[u8], at: usize) -> u16
+    requires within { ⌜ at + 1 < length (now s) ⌝ }
+    ensures value { λ r. ⌜ r ≡ word (now (s .entry)) at ⌝ }
+{
+    joined(s[at], s[at + 1])
+}
+
+// The part of `count` bytes from an offset on, as far as the slice reaches.
+pub fn part_of(s: &[u8], from: usize, count: usize) -> &[u8]
+    ensures part { λ r. ⌜ now r ≡ part (now (s .entry)) from count ⌝ }
+{
+    let size = s.len();
+    if size <= from {
+        return &s[size..];
+    }
+    if size - from <= count {
+        return &s[from..];
+    }
+    let end = from + count;
+    &s[from..end]
+}
+
+// Whether all bytes from an offset on are 0. They are added up and tested once: a branch for each byte costs more. The
+// sum is at most 255 for each byte, so that it wraps for no slice of a page's length.
+pub fn zero_from(s: &[u8], at: usize) -> bool
+    requires short { ⌜ length (now s) < 65536 ⌝ }
+    ensures value { λ r. ⌜ r ≡ allZero (drop at (now (s .entry))) ⌝ }
+{
+    let mut sum: u32 = 0;
+    let mut i = at;
+    while i < s.len() {
+        sum += s[i] as u32;
+        i += 1;
+    }
+    sum == 0
+}
