@@ -1,7 +1,4 @@
--- `Placing`, `Digits`, `Answering` and `Turns` are the laws behind the functions' proofs. `Decimal` says what the
--- definition of decimal digits gives.
-pub mod Placing
-pub mod Digits
+-- The laws behind the functions' proofs.
+pub mod Fronting
 pub mod Answering
 pub mod Turns
-pub mod Decimal

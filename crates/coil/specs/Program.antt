@@ -9,7 +9,8 @@ use lib.ListN.{length, take, drop}
 use lib.Dec.{leb, eqb}
 use Rattle.common.specs.Pick.{pick}
 use Rattle.common.specs.Window.{placed}
-use Rattle.coil.specs.Line.{ascii, recordLine}
+use Rattle.text.specs.Text.{ascii}
+use Rattle.coil.specs.Line.{recordLine}
 
 -- "reads `yard.map` (a file that can't be opened is empty; past 63,492 bytes it counts as 63,493 long)". So long a
 -- map is refused by 4, or by what comes before it, whatever its bytes; a file that can't be opened is given as the

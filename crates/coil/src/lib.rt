@@ -15,7 +15,6 @@ use search::Answer;
 mod lines;
 pub mod program;
 mod records;
-mod text;
 
 // The bytes of a line's buffer (specs/Writing.antt, `lineRoom`).
 pub const ROOM: usize = 160;

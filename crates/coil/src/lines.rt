@@ -7,9 +7,9 @@ ghost use Rattle.search.specs.Reply.{replyOf};
 ghost use Rattle.coil.specs.Line.{sourceWords, acceptedLine, refusalLine, lineOf};
 ghost use Rattle.coil.specs.Writing.{lineRoom, Fronted};
 use super::records::Record;
-use super::text::put_number;
-use super::text::put_text;
 use search::Answer;
+use text::put_number;
+use text::put_text;
 
 // `coil C length L from S`
 fn put_source(line: &mut [u8], parts: Record) -> usize

@@ -9,7 +9,7 @@ ghost use lib.ListN.{length};
 ghost use Rattle.coil.specs.Program.{mapOf, ReadFrom, Turned};
 use super::ROOM;
 use super::answer_record;
-use super::text::put_text;
+use text::put_text;
 
 // The bytes of the map's buffer: one more than the longest map has, so that a longer file shows.
 pub const FILE: usize = 63493;

@@ -12,7 +12,8 @@ use Rattle.page.specs.Reading.{readFrom, readPage, movesOf}
 use Rattle.page.specs.Check.{readingOf}
 use Rattle.engine.specs.Map.{mapPage}
 use Rattle.search.specs.Reply.{callCheck, onMap, searched}
-use Rattle.coil.specs.Line.{ascii, digits, sourceWords, acceptedLine, refusalLine, recordLine}
+use Rattle.text.specs.Text.{ascii, digits}
+use Rattle.coil.specs.Line.{sourceWords, acceptedLine, refusalLine, recordLine}
 use Rattle.coil.specs.Program.{turnOf, linesFrom, printed}
 use Rattle.course.specs.Cases.{m7}
 

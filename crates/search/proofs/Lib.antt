@@ -2,6 +2,6 @@
 
 pub mod Checking
 pub mod Searches
-pub mod Finishing
+pub mod Written
 pub mod Ending
 pub mod Promising

@@ -1,3 +1,3 @@
 pub mod Reply
 pub mod Promises
-pub mod Finishing
+pub mod Answering

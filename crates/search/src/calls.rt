@@ -11,9 +11,8 @@ ghost use Rattle.image.specs.Image.{accepted, outcomeOf};
 ghost use Rattle.search.specs.Reply.{asked, lent, returned, sixOrSeven, callCheck, onMap, searched};
 ghost use Rattle.search.specs.Promises.{Promised, DfPromised};
 use super::Answer;
-use super::finish::answer_of;
-use super::finish::finish;
-use super::finish::is_over;
+use super::answers::answer_of;
+use super::answers::is_over;
 use common::NOBODY;
 use engine::Query;
 use image::Checked;
@@ -21,6 +20,7 @@ use image::Place;
 use image::check_heading;
 use image::refuse;
 use image::station_count;
+use tables::finish;
 
 // Whether a table has no entry for some of n stations: 7.
 fn too_short(n: usize, times: usize, preds: usize, marks: usize, list: usize) -> bool

@@ -2,8 +2,8 @@
 // call tries refusals 1 to 7, lets the engine search in memory of its own, and writes what was found into the lent
 // tables.
 
+mod answers;
 pub mod calls;
-mod finish;
 
 use image::Refusal;
 

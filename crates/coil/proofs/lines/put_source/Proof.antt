@@ -1,7 +1,8 @@
 -- `put_source`: each number is put behind the front of the line that is written already (proofs/Placing.antt). No
 -- place is past the most that three numbers of twenty digits take.
-use Rattle.coil.proofs.Placing.{fronted-none, fronted-more}
-use Rattle.coil.specs.Line.{ascii, named, sourceWords}
+use Rattle.coil.proofs.Fronting.{fronted-none, fronted-more}
+use Rattle.text.specs.Text.{ascii, named}
+use Rattle.coil.specs.Line.{sourceWords}
 use Rattle.common.proofs.Ground.{now, needs}
 use Rattle.coil.proofs.lines.put_source.Statement.{statement}
 use Rattle.coil.proofs.lines.put_source.Tie as tie

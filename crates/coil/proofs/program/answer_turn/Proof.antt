@@ -1,8 +1,8 @@
 -- `answer_turn`: in each arm the number of bytes read says what the input has (proofs/Turns.antt), and the line is that
 -- of `answer_record`, or nothing, or `short`.
 use Rattle.common.proofs.Ground.{arith, now, needs}
-use Rattle.coil.specs.Line.{ascii}
-use Rattle.coil.proofs.Placing.{fronted-none, fronted-more}
+use Rattle.text.specs.Text.{ascii}
+use Rattle.coil.proofs.Fronting.{fronted-none, fronted-more}
 use Rattle.coil.proofs.Turns.{turned-record, turned-none, turned-short}
 use Rattle.coil.proofs.program.answer_turn.Statement.{statement}
 use Rattle.coil.proofs.program.answer_turn.Tie as tie

@@ -1,0 +1,35 @@
+-- Each entry is the one that the cell shows.
+use Rattle.common.proofs.Ground.{refl, ap, _∙_, set, ltb, now, needs}
+use Rattle.common.specs.Numbers.{noTime}
+use Rattle.net.specs.Net.{one}
+use Rattle.tables.proofs.write_station.Statement.{statement}
+use Rattle.tables.proofs.write_station.Tie as tie
+
+returns : tie.Need-returns
+returns c =
+    let pred = c .before in
+    let time = pred .before in
+    let a = time .before .before .before .before .args in (
+      ap (set (now (a .times)) (a .v)) (time .time-in .ensures),
+      (
+        ap (set (now (a .preds)) (a .v)) (pred .pred-in .ensures),
+        (refl, c .counted .ensures ∙ ap (λ t. one (ltb t noTime)) (time .time-in .ensures)),
+      ),
+    )
+
+pub write-station-spec : {M : Type 1} → statement M
+write-station-spec =
+    tie.close
+    (tie.spec
+    (λ c κs. search needs)
+    (λ c. search needs)
+    (λ c. search needs)
+    (λ c κs. search needs)
+    (λ c. search needs)
+    (λ c. search needs)
+    (λ c. search needs)
+    (λ c κs. search needs)
+    (λ c. search needs)
+    (λ c. search needs)
+    (λ c. search needs)
+    returns)
