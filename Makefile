@@ -22,12 +22,12 @@ cases: layers
 
 # What would look at page bytes, by the names that the sources use: a slice under another name escapes this.
 LOOKS := \b(page|image)\[|(byte_at|word_at|part_of|command_at)\((page|image)\b
-ABOVE_PAGE := layout queue relax engine search coil yard
+ABOVE_COMMANDS := layout queue relax page engine tables search coil yard
 
-# Looks in the sources of the crates above page for an index of, or a byte read from, a slice called page or image.
+# Looks in the sources of the crates above commands for an index of, or a byte read from, a slice called page or image.
 layers:
-	@grep -nE '$(LOOKS)' $(ABOVE_PAGE:%=crates/%/src/*.rt); test $$? = 1
-	@echo 'layers: no page bytes looked at in $(ABOVE_PAGE)'
+	@grep -nE '$(LOOKS)' $(ABOVE_COMMANDS:%=crates/%/src/*.rt); test $$? = 1
+	@echo 'layers: no page bytes looked at in $(ABOVE_COMMANDS)'
 
 # The kit's own C code, beside its guides.
 KIT_C = "$$(dirname "$$(rt doc)")/../lib/libos_c.a"

@@ -10,7 +10,7 @@
  *         02, u16 v, u16 t     a move of that station: to station v, in t tenths of a second, 1 to 65,535
  *         00                   ends the page; zeros follow
  * A page names just its own stations, rising; the targets of a station rise and differ from it. README.md says it at
- * more length, crates/page/specs/Image.antt and Reading.antt say it exactly.
+ * more length, and lists the definitions that say it exactly.
  *
  * A slice is passed as a pointer and a length in entries; a length of 0 needs a pointer that is not null. The slices
  * of one call must not overlap. No call allocates, and none keeps a pointer.

@@ -1,5 +1,5 @@
-// The commands of a page (01, "Map image"): which one stands at an offset, how long it is, and (rules.rt) by which rules
-// it is at fault. This is the only crate that looks at the bytes of a page.
+// The commands of a page (01, "Map image"): which one stands at an offset, how long it is, and (rules.rt) by which
+// rules it is at fault. This is the only crate that looks at the bytes of a page.
 
 ghost use mathlib.Core.Path.{_≡_};
 ghost use Prim.Native.Nat.{_+_, _<_};

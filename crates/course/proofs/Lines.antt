@@ -8,7 +8,7 @@ use Rattle.image.specs.Bytes.{allZero}
 use Rattle.image.specs.Image.{directoryOf, pageBytes, firstNotBelow, headingCheck}
 use Rattle.commands.specs.Commands.{commandAt}
 use Rattle.commands.specs.Rules.{firstOn, nextOn, judgeEnd, judgeStation, judgeMove, judge, judgedAt}
-use Rattle.page.specs.Reading.{readFrom, readPage, movesOf}
+use Rattle.page.specs.Reading.{readFrom, readPage, movesIn}
 use Rattle.page.specs.Check.{readingOf}
 use Rattle.engine.specs.Map.{mapPage}
 use Rattle.search.specs.Reply.{callCheck, onMap, searched}
@@ -27,7 +27,7 @@ pub example : printed m7 records ≡ ascii "coil 7 length 8120 from 0 pages 3 re
 unfolding turnOf linesFrom ascii digits sourceWords acceptedLine refusalLine recordLine count least iter reached start
     choose chooseOn readFor relax relaxAll visit workTurn workThrough dfVisit stepBy searchBy dfSearch allZero
     directoryOf pageBytes firstNotBelow headingCheck commandAt firstOn nextOn judgeEnd judgeStation judgeMove judge
-    judgedAt readFrom readPage readingOf movesOf mapPage callCheck onMap searched
+    judgedAt readFrom readPage readingOf movesIn mapPage callCheck onMap searched
 example = refl
 
 -- One byte left over behind the first record.

@@ -9,7 +9,7 @@ use Rattle.image.specs.Bytes.{allZero}
 use Rattle.image.specs.Image.{directoryOf, pageBytes, firstNotBelow, headingCheck}
 use Rattle.commands.specs.Commands.{commandAt}
 use Rattle.commands.specs.Rules.{firstOn, nextOn, judgeEnd, judgeStation, judgeMove, judge, judgedAt}
-use Rattle.page.specs.Reading.{readFrom, readPage, movesOf}
+use Rattle.page.specs.Reading.{readFrom, readPage, movesIn}
 use Rattle.page.specs.Check.{readingOf}
 use Rattle.engine.specs.Map.{mapPage}
 use Rattle.search.specs.Reply.{callCheck, onMap, searched}
@@ -23,7 +23,7 @@ table : map (λ (c : Case). shown (c .question) (c .image) (c .source)) cases �
 unfolding cases count changes onePageReads least iter reached start choose chooseOn readFor relax relaxAll visit
     workTurn workThrough plainVisit dfVisit stepBy searchBy plainSearch dfSearch allZero directoryOf
     pageBytes firstNotBelow headingCheck commandAt firstOn nextOn judgeEnd judgeStation judgeMove judge
-    judgedAt readFrom readPage readingOf movesOf mapPage callCheck onMap searched chain outcome routeCall
+    judgedAt readFrom readPage readingOf movesIn mapPage callCheck onMap searched chain outcome routeCall
 table = refl
 
 by-rows : (rows : List Case)

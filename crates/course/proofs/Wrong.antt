@@ -13,7 +13,7 @@ use Rattle.image.specs.Image.{accepted, refused, on-page}
 use Rattle.image.specs.Image.{AgreeOnDirectory, AgreeOnPage, directoryOf, pageBytes, firstNotBelow, headingCheck}
 use Rattle.commands.specs.Commands.{commandAt}
 use Rattle.commands.specs.Rules.{firstOn, nextOn, judgeEnd, judgeStation, judgeMove, judge, judgedAt}
-use Rattle.page.specs.Reading.{readFrom, readPage, movesOf}
+use Rattle.page.specs.Reading.{readFrom, readPage, movesIn}
 use Rattle.page.specs.Check.{readingOf}
 use Rattle.engine.specs.Map.{mapFrame, mapPage}
 use Rattle.search.specs.Reply.{Handed, callCheck, onMap, searched, listOf}
@@ -38,7 +38,7 @@ computed : Computed
 unfolding count timesIn movesTo entersFrom isEntry entryStations least iter reached start choose chooseOn readFor relax
     relaxAll visit workTurn workThrough plainVisit dfVisit stepBy searchBy plainSearch dfSearch allZero directoryOf
     pageBytes firstNotBelow headingCheck commandAt firstOn nextOn judgeEnd judgeStation judgeMove judge judgedAt
-    readFrom readPage readingOf movesOf mapPage callCheck onMap searched
+    readFrom readPage readingOf movesIn mapPage callCheck onMap searched
 computed = record {
   to-1 = onward 1 4 here (List·Memᴰ·head refl);
   to-2-through-4 = onward 2 1 (onward 4 2 here (List·Memᴰ·tail (List·Memᴰ·head refl))) (List·Memᴰ·head refl);

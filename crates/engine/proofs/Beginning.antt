@@ -13,7 +13,7 @@ use Rattle.image.specs.Image.{directoryOf, headingCheck, accepted}
 use Rattle.image.proofs.Heading.{formed}
 use Rattle.image.proofs.Parts.{bytes-directory}
 use Rattle.queue.proofs.Groups.{least-empty, empty-groups}
-use Rattle.relax.specs.Cells.{Memory, memory, Room, Relaxed, noCost, Placed as PlacedAt}
+use Rattle.relax.specs.Cells.{Memory, memory, Room, Relaxed, noCost, PlacedAt}
 use Rattle.relax.proofs.Rows.{relaxed-room, relaxed-cell, relaxed-other, relaxed-waits, relaxed-waits-other}
 use Rattle.engine.specs.Board.{Serving, frameOf, Placing, StationIs}
 use Rattle.engine.specs.Hand.{Stands}

@@ -16,7 +16,7 @@ use Rattle.layout.proofs.Slots.{slot-below, slot-on-page, same-slot}
 use Rattle.queue.specs.Keys.{packed}
 use Rattle.queue.specs.Queue.{Put}
 use Rattle.queue.proofs.Least.{least-before, least-behind, least-lowered}
-use Rattle.relax.specs.Cells.{Memory, memory, Relaxed, withoutWaiting, Placed as PlacedAt}
+use Rattle.relax.specs.Cells.{Memory, memory, Relaxed, withoutWaiting, PlacedAt}
 use Rattle.relax.proofs.Rows.{relaxed-room, relaxed-cell, relaxed-other, relaxed-waits, relaxed-waits-other}
 use Rattle.relax.proofs.Rows.{room-waiting}
 use Rattle.engine.specs.Board.{CellIs, keyIf, leastOn, Serving, frameOf, Placing, Leaves, Board}

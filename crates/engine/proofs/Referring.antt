@@ -10,7 +10,7 @@ use Rattle.net.specs.Run.{turnLimit, firstWaiting}
 use Rattle.net.proofs.Steps.Waiting.{first-lowest}
 use Rattle.net.proofs.Runs.{reference-inside, reference-listed, reference-bad, hand-begins}
 use Rattle.commands.specs.declared.Move.{Move}
-use Rattle.page.specs.Reading.{movesOf, bad}
+use Rattle.page.specs.Reading.{movesIn, bad}
 use Rattle.page.specs.Laying.{rowFor}
 use Rattle.page.specs.Check.{readingOf}
 use Rattle.layout.specs.Places.{pageAt}
@@ -80,7 +80,7 @@ module _ {df : Bool} (image : List ℕ) {source k key u p : ℕ} {places : List 
       → turns ≡ turnLimit df (mapFrame image) → Hand (serving df image source) k p places layout turns key m
   unfolding mapPage
   hand-image {layout} (known, laid) limit =
-      let moves : ℕ → List NetMove = λ v. map netMove (movesOf (laid .stations) v) in
+      let moves : ℕ → List NetMove = λ v. map netMove (movesIn (laid .stations) v) in
       record {
         moves = moves;
         turns = 0;

@@ -7,7 +7,7 @@ use Rattle.net.proofs.Laws.{map-sound}
 use Rattle.commands.specs.declared.Move.{Move}
 use Rattle.image.specs.Bytes.{Bytes}
 use Rattle.image.specs.Image.{directoryOf, headingCheck, accepted}
-use Rattle.page.specs.Reading.{Reading, good, bad, movesOf as stationMoves}
+use Rattle.page.specs.Reading.{Reading, good, bad, movesIn}
 use Rattle.page.specs.Check.{readingOf}
 use Rattle.page.specs.Good.{GoodMoves}
 use Rattle.image.proofs.Heading.{formed}
@@ -30,7 +30,7 @@ module _ (image : List ℕ) (bytes : Bytes image) where
   goes-good : (u v w p : ℕ) (r : Reading) → readingOf image p ≡ r
       → List·Memᴰ (record { target = v; weight = w }) (movesOf (offered r) u)
       → (0 < w) × (w ≤ 65535) × (v < length (directoryOf image))
-  goes-good u v w p (good moves stations) e m = weighs (length (directoryOf image)) u 0 v w (stationMoves stations u)
+  goes-good u v w p (good moves stations) e m = weighs (length (directoryOf image)) u 0 v w (movesIn stations u)
       (image-moves-good image bytes p moves stations e u) m
   goes-good u v w p (bad number offset) e m = absurd (List·Memᴰ·not-nil m)
 

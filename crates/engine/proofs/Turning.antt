@@ -18,7 +18,7 @@ use Rattle.layout.specs.Rows.{entryOf, Laid}
 use Rattle.queue.specs.Keys.{leastIn}
 use Rattle.queue.specs.Queue.{Put}
 use Rattle.relax.specs.Cells.{Memory, memory, Room, Relaxed, Relaxing, none, more, Visited, LaidOut, Targets, longest}
-use Rattle.relax.specs.Cells.{noCost, Placed as PlacedAt}
+use Rattle.relax.specs.Cells.{noCost, PlacedAt}
 use Rattle.engine.specs.Board.{chosen, Serving, frameOf, Board}
 use Rattle.engine.specs.Hand.{stateAfter, Stands, rowsOf, Hand}
 use Rattle.engine.proofs.Board.{placed-at, relaxed-board, stopped-board, left-board}

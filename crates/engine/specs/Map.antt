@@ -7,7 +7,7 @@ use Rattle.net.specs.Net.{Frame, Page, good, bad}
 use Rattle.net.specs.Net.{Move as NetMove}
 use Rattle.commands.specs.declared.Move.{Move}
 use Rattle.image.specs.Image.{directoryOf}
-use Rattle.page.specs.Reading.{Reading, movesOf}
+use Rattle.page.specs.Reading.{Reading, movesIn}
 use Rattle.page.specs.Reading.{good as read-good, bad as read-bad}
 use Rattle.page.specs.Check.{readingOf}
 
@@ -24,7 +24,7 @@ netMove m = record { target = m .target; weight = m .time }
 
 -- A good page offers the moves of its content; a bad one gives its refusal.
 abbrev pub offered : Reading → Page
-offered (read-good moves stations) = good (λ u. map netMove (movesOf stations u))
+offered (read-good moves stations) = good (λ u. map netMove (movesIn stations u))
 offered (read-bad number offset) = bad number offset
 
 unfoldable pub mapPage : List ℕ → ℕ → Page

@@ -1,5 +1,5 @@
-// The map image (01, "Map image"): its heading, its directory and where its pages stand; refusals 1 to 5. What lies past
-// an image's end reads as 0, or as nothing.
+// The map image (01, "Map image"): its heading, its directory and where its pages stand; refusals 1 to 5. What lies
+// past an image's end reads as 0, or as nothing.
 
 ghost use mathlib.Core.Path.{_≡_};
 ghost use Prim.Native.Nat.{_≤_, _<_};

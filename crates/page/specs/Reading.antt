@@ -45,6 +45,6 @@ module _ (directory : List ℕ) (p : ℕ) (page : List ℕ) where
   readPage = readFrom (suc (length page)) 0 0 0
 
 -- The moves that a page's content has for station u: those of its entry, or none.
-unfoldable pub movesOf : List Leaving → ℕ → List Move
-movesOf [] u = []
-movesOf (x ∷ xs) u = let rest = movesOf xs u in pick (eqb (x .station) u) (x .moves) rest
+unfoldable pub movesIn : List Leaving → ℕ → List Move
+movesIn [] u = []
+movesIn (x ∷ xs) u = let rest = movesIn xs u in pick (eqb (x .station) u) (x .moves) rest

@@ -2,7 +2,7 @@
 -- now, all of them lead to from the memory as it was at first.
 use Rattle.common.proofs.Ground.{_≡_, List, [], _∷_, ℕ, suc, _+_, _-_, _/_, _%_, _<_, _≤_, arith, add-one, length, getD}
 use Rattle.common.proofs.Ground.{drop-cons}
-use Rattle.relax.specs.Cells.{Memory, Relaxed, Relaxing, none, more, Room, Placed, Targets, rowsBetween}
+use Rattle.relax.specs.Cells.{Memory, Relaxed, Relaxing, none, more, Room, PlacedAt, Targets, rowsBetween}
 use Rattle.relax.proofs.Rows.{relaxed-room}
 
 -- The first of some rows, and none where they have ended.
@@ -34,7 +34,7 @@ module _ {places layout : List ℕ} {u cost lo hi : ℕ} {first : Memory} where
 
   module _ {i : ℕ} {now : Memory} (g : Going places layout u cost lo hi first i now) (h : i < hi)
       (k : hi ≤ length layout) where
-    pub going-target : Placed places (getD layout i 0 % 2048)
+    pub going-target : PlacedAt places (getD layout i 0 % 2048)
     going-target = (rw (rows-first layout i hi h k) at (g .targets)) .0
 
     pub going-more : {next : Memory} →

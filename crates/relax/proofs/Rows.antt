@@ -3,7 +3,7 @@ use Rattle.common.proofs.Ground.{_≡_, _∙_, _≢_, List, ℕ, _<_, min, arit
 use Rattle.common.proofs.Ground.{getD-set-other}
 use Rattle.queue.specs.Keys.{packed}
 use Rattle.layout.specs.Places.{slotOf}
-use Rattle.relax.specs.Cells.{Memory, memory, loweredKey, Relaxed, Room, Placed}
+use Rattle.relax.specs.Cells.{Memory, memory, loweredKey, Relaxed, Room, PlacedAt}
 
 module _ {places : List ℕ} {u : ℕ} where
   -- A relaxed move keeps every table's room and the queue in order.
@@ -25,7 +25,7 @@ module _ {places : List ℕ} {u : ℕ} where
     pub relaxed-other : (w : ℕ) → w ≢ v → getD (after .cells) w 0 ≡ getD (before .cells) w 0
     relaxed-other w n = rw (r .cell) (getD-set-other (before .cells) v w _ 0 n)
 
-    pub relaxed-waits : Room places before → Placed places v → getD (after .waiting) (slotOf places v) 0
+    pub relaxed-waits : Room places before → PlacedAt places v → getD (after .waiting) (slotOf places v) 0
         ≡ min (getD (before .waiting) (slotOf places v) 0) (loweredKey (getD (before .cells) v 0) sum v)
     relaxed-waits room placed =
         rw (r .waits)

@@ -71,14 +71,14 @@ pub record Room (places : List ℕ) (m : Memory) : Type 0 where
   pub groups : Groups (m .queue)
 
 -- Station v has a slot and a page.
-pub record Placed (places : List ℕ) (v : ℕ) : Type 0 where
+pub record PlacedAt (places : List ℕ) (v : ℕ) : Type 0 where
   pub slot : slotOf places v < 2048
   pub page : pageAt places v < 256
 
 -- Every one of some rows leads to such a station.
 abbrev pub Targets : List ℕ → List ℕ → Type 0
 Targets places [] = Unit {0}
-Targets places (row ∷ rows) = Placed places (row % 2048) × Targets places rows
+Targets places (row ∷ rows) = PlacedAt places (row % 2048) × Targets places rows
 
 -- The rows of a layout from `lo` up to `hi`.
 abbrev pub rowsBetween : List ℕ → ℕ → ℕ → List ℕ

@@ -8,7 +8,7 @@ ghost use Prim.Native.Nat.{_+_, _*_, _/_, _%_, _<_, _≤_, min};
 ghost use lib.ListN.{length, getD, set};
 ghost use Rattle.queue.specs.Keys.{packed};
 ghost use Rattle.relax.specs.Cells.{memory, noCost, longest, loweredKey, Relaxed, Relaxing, Visited};
-ghost use Rattle.relax.specs.Cells.{Room, Placed, Targets, rowsBetween, LaidOut};
+ghost use Rattle.relax.specs.Cells.{Room, PlacedAt, Targets, rowsBetween, LaidOut};
 use common::NOBODY;
 use layout::moves::begin_of;
 use layout::moves::end_of;
@@ -74,7 +74,7 @@ pub fn offer(
     requires to { ⌜ v < 2048 ⌝ }
     requires cost { ⌜ sum < noCost ⌝ }
     requires room { ⌜ Room (now places) (memory (now cells) (now waiting) (now queue)) ⌝ }
-    requires placed { ⌜ Placed (now places) v ⌝ }
+    requires placed { ⌜ PlacedAt (now places) v ⌝ }
     ensures relaxed { λ r. ⌜ Relaxed (now (places .entry)) u v sum
         (memory (now (cells .entry)) (now (waiting .entry)) (now (queue .entry)))
         (memory (now (cells .exit)) (now (waiting .exit)) (now (queue .exit))) ⌝ }
@@ -128,7 +128,7 @@ pub fn visit(
     requires station { ⌜ u < 2048 ⌝ }
     requires cost { ⌜ getD (now cells) u 0 / 2048 + longest < noCost ⌝ }
     requires room { ⌜ Room (now places) (memory (now cells) (now waiting) (now queue)) ⌝ }
-    requires placed { ⌜ Placed (now places) u ⌝ }
+    requires placed { ⌜ PlacedAt (now places) u ⌝ }
     requires row { ⌜ LaidOut (now places) (now layout) u ⌝ }
     ensures visited { λ r. ⌜ Visited (now (places .entry)) (now (layout .entry)) u
         (memory (now (cells .entry)) (now (waiting .entry)) (now (queue .entry)))

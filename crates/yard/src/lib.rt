@@ -1,15 +1,16 @@
 // The C interface (include/yard.h): each call of the engine as a C function. A slice passes as a pointer and a length
 // in entries. What a call answers becomes its status and the four numbers of `answer` (specs/Numbers.antt); what it
 // does to the lent tables is what the engine's call does. A search promises a C caller what it promises every caller
-// (search/specs/Promises.antt), of the reply that the numbers tell and of the tables as they are left.
+// (specs/Searches.antt), of the reply that the numbers tell and of the tables as they are left.
 
 ghost use mathlib.Core.Path.{_≡_};
 ghost use Rattle.net.specs.Search.{plainSearch, dfSearch};
 ghost use Rattle.page.specs.Check.{wholeCheck};
 ghost use Rattle.route.specs.Route.{routeCall};
-ghost use Rattle.search.specs.Reply.{asked, lent, handed, searched};
+ghost use Rattle.search.specs.Reply.{asked, lent};
 ghost use Rattle.search.specs.Promises.{Promised, DfPromised};
-ghost use Rattle.yard.specs.Numbers.{told, toldBy, ofCheck, ofSearch, ofRoute};
+ghost use Rattle.yard.specs.Numbers.{told, toldBy, ofCheck, ofRoute};
+ghost use Rattle.yard.specs.Searches.{SearchTold};
 use answers::of_check;
 use answers::of_route;
 use answers::tell;
@@ -46,16 +47,11 @@ pub extern "C" fn yard_plain(
     list: &mut [u8],
     answer: &mut [u32],
 ) -> u32
-    ensures outcome { λ r. ⌜
-        told r (now (answer .exit)) ≡ toldBy (ofSearch ((searched plainSearch (asked (now (image .entry)) source)
-        (lent (now (times .entry)) (now (preds .entry)) (now (marks .entry)) (now (list .entry)))) .reply))
-        (now (answer .entry)) ⌝ }
-    ensures promised { λ r. ⌜
-        Promised plainSearch (asked (now (image .entry)) source)
+    ensures told { λ r. ⌜
+        SearchTold plainSearch (Promised plainSearch) (asked (now (image .entry)) source)
         (lent (now (times .entry)) (now (preds .entry)) (now (marks .entry)) (now (list .entry)))
-        (handed ((searched plainSearch (asked (now (image .entry)) source)
-        (lent (now (times .entry)) (now (preds .entry)) (now (marks .entry)) (now (list .entry)))) .reply)
-        (lent (now (times .exit)) (now (preds .exit)) (now (marks .exit)) (now (list .exit)))) ⌝ }
+        (lent (now (times .exit)) (now (preds .exit)) (now (marks .exit)) (now (list .exit)))
+        r (now (answer .entry)) (now (answer .exit)) ⌝ }
 {
     let answered = search::calls::plain(image, source, times, preds, marks, list);
     tell_search(answered, answer)
@@ -72,16 +68,11 @@ pub extern "C" fn yard_df(
     list: &mut [u8],
     answer: &mut [u32],
 ) -> u32
-    ensures outcome { λ r. ⌜
-        told r (now (answer .exit)) ≡ toldBy (ofSearch ((searched dfSearch (asked (now (image .entry)) source)
-        (lent (now (times .entry)) (now (preds .entry)) (now (marks .entry)) (now (list .entry)))) .reply))
-        (now (answer .entry)) ⌝ }
-    ensures promised { λ r. ⌜
-        DfPromised (asked (now (image .entry)) source)
+    ensures told { λ r. ⌜
+        SearchTold dfSearch DfPromised (asked (now (image .entry)) source)
         (lent (now (times .entry)) (now (preds .entry)) (now (marks .entry)) (now (list .entry)))
-        (handed ((searched dfSearch (asked (now (image .entry)) source)
-        (lent (now (times .entry)) (now (preds .entry)) (now (marks .entry)) (now (list .entry)))) .reply)
-        (lent (now (times .exit)) (now (preds .exit)) (now (marks .exit)) (now (list .exit)))) ⌝ }
+        (lent (now (times .exit)) (now (preds .exit)) (now (marks .exit)) (now (list .exit)))
+        r (now (answer .entry)) (now (answer .exit)) ⌝ }
 {
     let answered = search::calls::df(image, source, times, preds, marks, list);
     tell_search(answered, answer)

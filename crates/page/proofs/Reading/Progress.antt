@@ -11,7 +11,7 @@ use Rattle.layout.proofs.Due.{due-start, due-step, next-is-due}
 use Rattle.commands.specs.declared.Move.{Move}
 use Rattle.commands.specs.declared.Command.{Command}
 use Rattle.commands.specs.declared.Command.the-variants.{End, Station, MoveTo}
-use Rattle.page.specs.Reading.{Reading, good, bad, Leaving, withMove, withStation, movesOf}
+use Rattle.page.specs.Reading.{Reading, good, bad, Leaving, withMove, withStation, movesIn}
 use Rattle.commands.specs.Commands.{lengthOf, widthOf}
 use Rattle.commands.specs.Rules.{nextOn}
 use Rattle.page.specs.Reading.{readFrom, readPage}
@@ -49,10 +49,10 @@ pub record Rows (directory : List ℕ) (p : ℕ) (page : List ℕ) (all : List L
   pub rest : List Move
   pub following : List Leaving
   pub left : readFrom directory p page turns at after least ≡ good rest following
-  pub latest : (v : ℕ) → after ≡ v + 1 → (endOf layout v ≡ k) × Row layout p v k (movesOf all v) rest
+  pub latest : (v : ℕ) → after ≡ v + 1 → (endOf layout v ≡ k) × Row layout p v k (movesIn all v) rest
   pub earlier : (u : ℕ) → u + 1 < after → u < length directory → getD directory u 0 ≡ p
-      → Row layout p u k (movesOf all u) []
-  pub later : (u : ℕ) → after ≤ u → movesOf all u ≡ movesOf following u
+      → Row layout p u k (movesIn all u) []
+  pub later : (u : ℕ) → after ≤ u → movesIn all u ≡ movesIn following u
 
 -- Turns enough to read what is left of a page, and room enough to lay it out: a move takes five bytes.
 pub record Enough (page layout : List ℕ) (p turns at k : ℕ) : Type 0 where
@@ -136,10 +136,10 @@ module _ {directory places page before layout : List ℕ} {p due at after least 
 
   -- the rows of a good page, where no moves of the latest station are left
   closed : (all : List Leaving) (w : Rows directory p page all layout (l .turns) at after least k) → w .rest ≡ []
-      → (u : ℕ) → u < after → u < length directory → getD directory u 0 ≡ p → Row layout p u k (movesOf all u) []
+      → (u : ℕ) → u < after → u < length directory → getD directory u 0 ≡ p → Row layout p u k (movesIn all u) []
   closed all w none u h station on =
       dite (ℕ-discrete after (u + 1))
-      (λ e. subst (Row layout p u k (movesOf all u)) none (w .latest u e .1))
+      (λ e. subst (Row layout p u k (movesIn all u)) none (w .latest u e .1))
       (λ n. w .earlier u (omega arith) station on)
 
   pub move-fits : {m : Move} → here ≡ MoveTo m → MoveFits directory p page at after k
@@ -171,7 +171,7 @@ module _ {directory places page before layout : List ℕ} {p due at after least 
               rw same (
                 end-own layout k entry (after - 1) (k + 1) (fits .small) (room .size),
                 row-more room (after - 1) (fits .small) m (fits .room) (own .0)
-                    (subst (Row layout p (after - 1) k (movesOf all (after - 1))) (rest .1) (own .1)),
+                    (subst (Row layout p (after - 1) k (movesIn all (after - 1))) (rest .1) (own .1)),
               );
           earlier = λ u q h on.
               row-kept room (after - 1) (fits .small) k entry (k + 1) (inr refl) (omega arith)
@@ -213,16 +213,16 @@ module _ {directory places page before layout : List ℕ} {p due at after least 
 
     rows-station : (all : List Leaving) → Rows directory p page all layout (l .turns) at after least k
         → Rows directory p page all begun (l .turns - 1) (at + widthOf (Station v)) (v + 1) 0 k
-    unfolding movesOf
+    unfolding movesIn
     rows-station all w =
         let fits = station-fits e in
         let room = l .enough .room in
         let next = fits .next in
         let rest = good-behind-station v (behind _ _ _) (sym (left-is e) ∙ w .left) in
         let own = rest .0 in
-        let of : (u : ℕ) → after ≤ u → movesOf all u ≡ movesOf (record { station = v; moves = own } ∷ rest .1) u =
-        λ u q. w .later u q ∙ ap (λ stations. movesOf stations u) (rest .3) in
-        let own-is : movesOf all v ≡ own = of v (next .from) ∙ simp (eq-eqb v v refl) in
+        let of : (u : ℕ) → after ≤ u → movesIn all u ≡ movesIn (record { station = v; moves = own } ∷ rest .1) u =
+        λ u q. w .later u q ∙ ap (λ stations. movesIn stations u) (rest .3) in
+        let own-is : movesIn all v ≡ own = of v (next .from) ∙ simp (eq-eqb v v refl) in
         record {
           rest = own;
           following = rest .1;

@@ -1,40 +1,24 @@
 -- What `plain` promises, of the reply that the numbers tell (proofs/Told.antt).
-use Rattle.common.proofs.Ground.{false, arith, now, needs}
-use Rattle.image.specs.Bytes.{Bytes}
+use Rattle.common.proofs.Ground.{false, arith, needs}
 use Rattle.net.specs.Search.{plainSearch}
-use Rattle.search.specs.Reply.{Query, asked, Lent, lent}
 use Rattle.search.specs.Promises.{Promised}
-use Rattle.yard.proofs.Told.{small-numbers, told-promised}
+use Rattle.yard.proofs.Told.{small-numbers, search-told}
 use Rattle.yard.proofs.yard_plain.Statement.{statement}
 use Rattle.yard.proofs.yard_plain.Tie as tie
-
--- What is asked and lent.
-module _ (searched : tie.After-plain) where
-  abbrev known : tie.After-shared-slice-known
-  known = searched .before .before .before .before .before .before .before .before .before .before
-
-  abbrev q : Query
-  q = let a = known .before .args in asked (now (a .image)) (a .source)
-
-  abbrev t : Lent
-  t = let a = known .before .args in lent (now (a .times)) (now (a .preds)) (now (a .marks)) (now (a .list))
-
-  bytes : Bytes (q .image)
-  bytes i = omega (arith, known .shared-slice-known .given i)
 
 tell-search-requires : tie.Need-tell-search-requires
 tell-search-requires c κs =
     let searched = c .before .before .before .before .before .before .before .before .before in
-    small-numbers false (q searched) (t searched) _ _ (searched .plain .ensures .outcome) (bytes searched)
+    let known = searched .before .before .before .before .before .before .before .before .before .before in
+    small-numbers false _ _ (searched .plain .ensures .outcome)
+    (λ i. omega (arith, known .shared-slice-known .given i))
 
 returns : tie.Need-returns
 returns c =
     let told = c .before .before in
     let searched = told .before .before .before .before .before .before .before .before .before .before in
     let promised = searched .plain .ensures in
-    told-promised false (q searched) (t searched) _ _
-    (promised .outcome) (Promised plainSearch (q searched) (t searched)) _ (now (known searched .before .args .answer))
-    promised (told .tell-search .ensures)
+    search-told false _ _ (promised .outcome) (Promised plainSearch) promised (told .tell-search .ensures)
 
 pub yard-plain-spec : {M : Type 1} → statement M
 yard-plain-spec =
