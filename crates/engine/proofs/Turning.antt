@@ -3,7 +3,7 @@
 -- after one reference more.
 use Rattle.common.proofs.Ground.{_≡_, refl, sym, _∙_, ap, _⊎_, inl, inr, dite, List, [], _∷_, _++_, append-assoc}
 use Rattle.common.proofs.Ground.{append-nil, List·Memᴰ·head, Memᴰ·append-right, ℕ, suc, _+_, _-_, _/_, _%_, _≤_, _<_}
-use Rattle.common.proofs.Ground.{arith, ℕ-discrete, length, getD, take, drop, ltb, lt-ltb, le-ltb}
+use Rattle.common.proofs.Ground.{arith, ℕ-discrete, length, getD, set, take, drop, ltb, lt-ltb, le-ltb}
 use Rattle.common.specs.Numbers.{nobody}
 use Rattle.net.specs.declared.Choice.the-variants.{Station}
 use Rattle.net.specs.Net.{Move, Frame, Goes}
@@ -13,16 +13,27 @@ use Rattle.net.proofs.Sound.{Sound}
 use Rattle.net.proofs.Relaxing.Relax.{relax-relaxed, relaxAll-last}
 use Rattle.net.proofs.Runs.{visit-move, visit-time, visit-standing, visit-on, visit-inside, visit-stops, visit-timed}
 use Rattle.net.proofs.Runs.{hand-turn, hand-made, hand-stops, hand-going}
-use Rattle.layout.specs.Places.{firstSlot, Placed}
-use Rattle.layout.specs.Rows.{entryOf, Laid}
+use Rattle.layout.specs.Places.{firstSlot, slotOf, Placed}
+use Rattle.layout.specs.Rows.{entryOf, rowOf, Laid}
 use Rattle.queue.specs.Keys.{leastIn}
 use Rattle.queue.specs.Queue.{Put}
-use Rattle.relax.specs.Cells.{Memory, memory, Room, Relaxed, Relaxing, none, more, Visited, LaidOut, Targets, longest}
-use Rattle.relax.specs.Cells.{noCost, PlacedAt}
-use Rattle.engine.specs.Board.{chosen, Serving, frameOf, Board}
+use Rattle.relax.specs.Cells.{Memory, memory, Room, Relaxed, Relaxing, none, more, withoutWaiting, Visited, LaidOut}
+use Rattle.relax.specs.Cells.{Targets, longest, noCost, PlacedAt}
+use Rattle.engine.specs.Board.{leastOn, chosen, Serving, frameOf, Board}
 use Rattle.engine.specs.Hand.{stateAfter, Stands, rowsOf, Hand}
 use Rattle.engine.proofs.Board.{placed-at, relaxed-board, stopped-board, left-board}
 use Rattle.engine.proofs.Choosing.{first-on}
+
+-- The least key's station u, which has stopped waiting in its slot; and page p's leaf, set then.
+pub record LeafSet (places : List ℕ) (p least : ℕ) (m : Memory) (u slot : ℕ) (queue : List ℕ) : Type 0 where
+  pub named : u ≡ least % 2048
+  pub slotted : slot ≡ slotOf places u
+  pub put : Put (m .queue) p (leastOn places (set (m .waiting) slot nobody) p) queue
+
+pub leaf-put : (places waiting : List ℕ) {before queue : List ℕ} {p lo hi next : ℕ} → lo ≡ firstSlot places p
+    → hi ≡ firstSlot places (p + 1) → next ≡ leastIn (take (hi - lo) (drop lo waiting)) → Put before p next queue
+    → Put before p (leastOn places waiting p) queue
+leaf-put places waiting low high found put = rw (found, high, low) at put
 
 module _ {q : Serving} {k p left least : ℕ} {places layout : List ℕ} {m : Memory}
     (h : Hand q k p places layout left least m) where
@@ -82,10 +93,10 @@ module _ {q : Serving} {k p left least : ℕ} {places layout : List ℕ} {m : Me
       target : entryOf (next .weight) (next .target) % 2048 ≡ next .target
       target = omega (arith, leads, d .few)
 
-      move-board : {a b : Memory} → Board q places p part a
+      move-board : {hand : ℕ} {a b : Memory} → Board q places hand part a
           → Relaxed places x (entryOf (next .weight) (next .target) % 2048)
           (time + entryOf (next .weight) (next .target) / 2048) a b
-          → Board q places p (relax F ltb x next part) b
+          → Board q places hand (relax F ltb x next part) b
       move-board board r =
           let n = visit-move ok (h .in-hand) first-x turns-more before rest next split in
           let same = visit-time ok (h .in-hand) first-x turns-more before (next ∷ rest) split in
@@ -98,9 +109,9 @@ module _ {q : Serving} {k p left least : ℕ} {places layout : List ℕ} {m : Me
           (omega (arith, ok .moves x (next .target) (next .weight) goes .0)) (n .sum-below) net (n .wakes)
           (rw (target, weight) at r)
 
-    visit-board : (before rest : List Move) → h .moves x ≡ before ++ rest → {a b : Memory}
-        → Board q places p (relaxAll F ltb x before stopped) a → Relaxing places x time (rowsOf rest) a b
-        → Board q places p (relaxAll F ltb x (h .moves x) stopped) b
+    visit-board : (before rest : List Move) → h .moves x ≡ before ++ rest → {hand : ℕ} {a b : Memory}
+        → Board q places hand (relaxAll F ltb x before stopped) a → Relaxing places x time (rowsOf rest) a b
+        → Board q places hand (relaxAll F ltb x (h .moves x) stopped) b
     visit-board before [] split board none = rw (split, append-nil) board
     visit-board before (next ∷ rest) split board (more r relaxing) =
         visit-board (before ++ (next ∷ [])) rest (split ∙ sym (append-assoc before (next ∷ []) rest))
@@ -113,19 +124,30 @@ module _ {q : Serving} {k p left least : ℕ} {places layout : List ℕ} {m : Me
       targets (before ++ (next ∷ [])) rest (split ∙ sym (append-assoc before (next ∷ []) rest)),
     )
 
-    -- What the visit asks, and what it leaves.
+    -- What a visit asks.
+    pub small : x < 2048
+    small = omega (arith, inside, d .few)
+
+    pub place : PlacedAt places x
+    place = placed-at (h .board .placing) x inside
+
+    costs : getD (m .cells) x 0 / 2048 + longest < noCost
+    costs = let timed = visit-timed ok (h .in-hand) first-x in let is = cost in omega arith
+
+    row : LaidOut places layout x
+    row = record {
+      size = h .size;
+      within = omega (arith, laid .ends, h .page);
+      targets = rw (laid .entries) (targets [] (h .moves x) refl);
+    }
+
     pub turn-asks : (x < 2048) × ((getD (m .cells) x 0 / 2048 + longest < noCost)
         × (Room places m × (PlacedAt places x × LaidOut places layout x)))
-    turn-asks =
-        let timed = visit-timed ok (h .in-hand) first-x in
-        let costs = cost in
-        let placed = placed-at (h .board .placing) x inside in
-        let row : LaidOut places layout x = record {
-          size = h .size;
-          within = omega (arith, laid .ends, h .page);
-          targets = rw (laid .entries) (targets [] (h .moves x) refl);
-        } in
-        (omega (arith, inside, d .few), (omega arith, (h .board .room, (placed, row))))
+    turn-asks = (small, (costs, (h .board .room, (place, row))))
+
+    -- The station stops waiting, and its moves are relaxed.
+    stopped-stands : Board q places p stopped (withoutWaiting places x m)
+    stopped-stands = stopped-board (h .board) inside on (visit-stops ok (h .in-hand) first-x)
 
     pub turned : {after : Memory} {u lo hi least′ : ℕ} → u ≡ x → Visited places layout u m after
         → lo ≡ firstSlot places p → hi ≡ firstSlot places (p + 1)
@@ -141,11 +163,36 @@ module _ {q : Serving} {k p left least : ℕ} {places layout : List ℕ} {m : Me
       size = h .size;
       page = h .page;
       rows = h .rows;
-      board = visit-board [] (h .moves x) refl
-          (stopped-board (h .board) inside on (visit-stops ok (h .in-hand) first-x))
-          (rw (e, cost, laid .entries) at (visited .relaxing));
+      board = visit-board [] (h .moves x) refl stopped-stands (rw (e, cost, laid .entries) at (visited .relaxing));
       key = found ∙ rw (low, high);
     }
+
+    -- The same where the page is left in between: its leaf is set, and then the moves are relaxed.
+    module _ {u slot : ℕ} {queue : List ℕ} (leaf : LeafSet places p least m u slot queue) where
+      abbrev left-stopped : Memory
+      left-stopped = memory (m .cells) (set (m .waiting) slot nobody) queue
+
+      stopped-left : Board q places 256 stopped left-stopped
+      stopped-left =
+          let slot-is : slot ≡ slotOf places x = rw (leaf .named) at (leaf .slotted) in
+          rw slot-is (left-board stopped-stands (h .page) (rw slot-is at (leaf .put)))
+
+      pub last-asks : (u < 2048) × ((getD (m .cells) u 0 / 2048 + longest < noCost)
+          × (Room places left-stopped × LaidOut places layout u))
+      last-asks = rw (leaf .named) (small, (costs, (stopped-left .room, row)))
+
+      pub last-turn : left ≡ 1 → {after : Memory}
+          → Relaxing places u (getD (m .cells) u 0 / 2048) (rowOf layout u) left-stopped after
+          → Stands q (suc k) places after
+      unfolding visitOf relaxAll
+      last-turn one relaxing =
+          let hand = hand-turn ok (h .in-hand) first-x turns-more in
+          let same = hand-made ok hand (omega (arith, h .count)) in
+          let moves = rw (leaf .named, cost, laid .entries) at relaxing in
+          record {
+            going = rw same at (hand-going ok hand);
+            board = rw same at (visit-board [] (h .moves x) refl stopped-left moves);
+          }
 
   -- No turn is left, or nobody waits.
   pub over : {queue : List ℕ} → (left ≡ 0) ⊎ (nobody ≤ least) → Put (m .queue) p least queue

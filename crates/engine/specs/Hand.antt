@@ -1,7 +1,7 @@
 -- The run as the engine makes it: its memory between two references, and in the midst of one, with a page in hand.
 use mathlib.Core.Path.{_≡_}
 use mathlib.Core.List.{List, map}
-use Prim.Native.Nat.{ℕ, _+_, _<_}
+use Prim.Native.Nat.{ℕ, suc, _+_, _<_}
 use lib.ListN.{length, getD}
 use Rattle.net.specs.Net.{Move}
 use Rattle.net.specs.Search.{State, going}
@@ -36,3 +36,11 @@ pub record Hand (q : Serving) (k p : ℕ) (places layout : List ℕ) (left least
   pub rows : (v : ℕ) → v < length (q .directory) → getD (q .directory) v 0 ≡ p → Laid layout p v (rowsOf (moves v))
   pub board : Board q places p state m
   pub key : least ≡ leastOn places (m .waiting) p
+
+-- The page is in hand in some search; and with its turns made, that search is one reference further.
+abbrev pub Working : ℕ → List ℕ → List ℕ → ℕ → ℕ → Memory → Type 0
+Working p places layout left least m = (q : Serving) × (k : ℕ) × Hand q k p places layout left least m
+
+abbrev pub Worked : ℕ → List ℕ → List ℕ → ℕ → ℕ → Memory → Memory → Type 0
+Worked p places layout left least m after =
+    (q : Serving) (k : ℕ) → Hand q k p places layout left least m → Stands q (suc k) places after

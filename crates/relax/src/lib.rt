@@ -6,6 +6,7 @@
 ghost use mathlib.Core.Path.{_≡_};
 ghost use Prim.Native.Nat.{_+_, _*_, _/_, _%_, _<_, _≤_, min};
 ghost use lib.ListN.{length, getD, set};
+ghost use Rattle.layout.specs.Rows.{rowOf};
 ghost use Rattle.queue.specs.Keys.{packed};
 ghost use Rattle.relax.specs.Cells.{memory, noCost, longest, loweredKey, Relaxed, Relaxing, Visited};
 ghost use Rattle.relax.specs.Cells.{Room, PlacedAt, Targets, rowsBetween, LaidOut};
@@ -115,8 +116,40 @@ fn relax_rows(
     }
 }
 
-// Visits station u: it no longer waits, and the moves of its row are relaxed in their order. By that it becomes fresh
-// in the DF search, and settled in the plain one.
+// Relaxes the moves of station u's row in their order, at the cost that its cell has.
+pub fn relax_moves(
+    u: usize,
+    places: &[u16],
+    layout: &[u32],
+    cells: &mut [u64],
+    waiting: &mut [u64],
+    queue: &mut [u64],
+)
+    requires station { ⌜ u < 2048 ⌝ }
+    requires cost { ⌜ getD (now cells) u 0 / 2048 + longest < noCost ⌝ }
+    requires room { ⌜ Room (now places) (memory (now cells) (now waiting) (now queue)) ⌝ }
+    requires row { ⌜ LaidOut (now places) (now layout) u ⌝ }
+    ensures relaxed { λ r. ⌜ Relaxing (now (places .entry)) u (getD (now (cells .entry)) u 0 / 2048)
+        (rowOf (now (layout .entry)) u)
+        (memory (now (cells .entry)) (now (waiting .entry)) (now (queue .entry)))
+        (memory (now (cells .exit)) (now (waiting .exit)) (now (queue .exit))) ⌝ }
+{
+    let cost = cells[u] / (STATIONS as u64);
+    relax_rows(
+        cells,
+        waiting,
+        queue,
+        places,
+        layout,
+        u,
+        cost,
+        begin_of(layout, u),
+        end_of(layout, u),
+    );
+}
+
+// Visits station u: it no longer waits, and its moves are relaxed. By that it becomes fresh in the DF search, and
+// settled in the plain one.
 pub fn visit(
     u: usize,
     places: &[u16],
@@ -134,17 +167,6 @@ pub fn visit(
         (memory (now (cells .entry)) (now (waiting .entry)) (now (queue .entry)))
         (memory (now (cells .exit)) (now (waiting .exit)) (now (queue .exit))) ⌝ }
 {
-    let cost = cells[u] / (STATIONS as u64);
     waiting[slot_of(places, u)] = NOBODY;
-    relax_rows(
-        cells,
-        waiting,
-        queue,
-        places,
-        layout,
-        u,
-        cost,
-        begin_of(layout, u),
-        end_of(layout, u),
-    );
+    relax_moves(u, places, layout, cells, waiting, queue);
 }

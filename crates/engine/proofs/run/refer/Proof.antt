@@ -87,7 +87,7 @@ work-page-requires : tie.Need-work-page-requires
 work-page-requires c κs =
     let limited = c .before .before .before .before in
     let known = known (named limited) in
-    (q known, begun known .args .count, taken limited)
+    (known .before .before .if1 .left, (q known, begun known .args .count, taken limited))
 
 returns-2 : tie.Need-returns-2
 returns-2 c =
