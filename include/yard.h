@@ -23,7 +23,7 @@
  *
  * Stack: a call's stack use stays below 256 KiB. The most that was seen, in bytes, arguments included (`make stack` on
  * x86-64: full maps and damaged ones):
- *     yard_check 77,512    yard_plain 112,696    yard_df 112,696    yard_route 72
+ *     yard_check 77,512    yard_plain 112,680    yard_df 112,680    yard_route 72
  *
  * Each call returns 0 if accepted, else the refusal's number (1 to 17). Where answer has four entries or more, the
  * first four get
