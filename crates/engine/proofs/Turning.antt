@@ -1,6 +1,6 @@
--- The page loop. Each turn visits the station of least key: it stops waiting, and its row is relaxed move by move, as
--- the net relaxes its moves. The loop ends where the turns are made or nobody waits on the page, which is the state
--- after one reference more.
+-- The work on a page. Each turn visits the station of least key: it stops waiting, and its row is relaxed move by move,
+-- as the net relaxes its moves. It ends where the turns are made or nobody waits on the page, which is the state after
+-- one reference more.
 use Rattle.common.proofs.Ground.{_≡_, refl, sym, _∙_, ap, _⊎_, inl, inr, dite, List, [], _∷_, _++_, append-assoc}
 use Rattle.common.proofs.Ground.{append-nil, List·Memᴰ·head, Memᴰ·append-right, ℕ, suc, _+_, _-_, _/_, _%_, _≤_, _<_}
 use Rattle.common.proofs.Ground.{arith, ℕ-discrete, length, getD, set, take, drop, ltb, lt-ltb, le-ltb}
@@ -125,7 +125,7 @@ module _ {q : Serving} {k p left least : ℕ} {places layout : List ℕ} {m : Me
     )
 
     -- What a visit asks.
-    pub small : x < 2048
+    small : x < 2048
     small = omega (arith, inside, d .few)
 
     pub place : PlacedAt places x
