@@ -1,6 +1,6 @@
 -- The memory at the start of a search. The source is offered cost 0 on tables in which all entries are nobody's, so
 -- that it alone has a time, and waits.
-use Rattle.common.proofs.Ground.{_≡_, refl, Bool, _≢_, dite, List, ℕ, _+_, _≤_, _<_, arith, ℕ-discrete}
+use Rattle.common.proofs.Ground.{_≡_, refl, _≢_, dite, List, ℕ, _+_, _≤_, _<_, arith, ℕ-discrete}
 use Rattle.common.proofs.Ground.{length, getD, replicate, length-replicate, getD-replicate, getD-set-other, eq-eqb}
 use Rattle.common.proofs.Ground.{ne-eqb}
 use Rattle.common.specs.Numbers.{nobody, noTime}
@@ -15,6 +15,7 @@ use Rattle.image.proofs.Parts.{bytes-directory}
 use Rattle.queue.proofs.Groups.{least-empty, empty-groups}
 use Rattle.relax.specs.Cells.{Memory, memory, Room, Relaxed, noCost, PlacedAt}
 use Rattle.relax.proofs.Rows.{relaxed-room, relaxed-cell, relaxed-other, relaxed-waits, relaxed-waits-other}
+use Rattle.engine.specs.declared.Query.{Query}
 use Rattle.engine.specs.Board.{Serving, frameOf, Placing, StationIs}
 use Rattle.engine.specs.Hand.{Stands}
 use Rattle.engine.specs.Standing.{serving, Underway}
@@ -114,17 +115,17 @@ module _ {q : Serving} {places : List ℕ} (placing : Placing q places) {m : Mem
   }
 
 -- On an image: its net is sound, its stations are placed, and nothing of it is laid out in a table of zeros.
-module _ (df : Bool) (image : List ℕ) (source : ℕ) (bytes : Bytes image) (well : headingCheck image ≡ accepted)
-    (inside : source < length (directoryOf image)) {places cells : List ℕ} (placed : Placed (directoryOf image) places)
+module _ (query : Query) (image : List ℕ) (bytes : Bytes image) (well : headingCheck image ≡ accepted)
+    (inside : query .source < length (directoryOf image)) {places cells : List ℕ} (placed : Placed (directoryOf image) places)
     (nobodys : cells ≡ empty .cells) where
   abbrev before : Memory
   before = memory cells (empty .waiting) (empty .queue)
 
-  placing : Placing (serving df image source) places
+  placing : Placing (serving query image) places
   placing =
       let f = formed image well in
       record {
-        sound = image-sound image bytes well source inside;
+        sound = image-sound image bytes well (query .source) inside;
         placed = placed;
         few = omega arith;
         bytes = bytes-directory image bytes;
@@ -132,14 +133,14 @@ module _ (df : Bool) (image : List ℕ) (source : ℕ) (bytes : Bytes image) (we
       }
 
   -- what the offer asks, and what it leaves
-  pub begin-asks : (0 < 2048) × ((source < 2048) × ((0 < noCost) × (Room places before × PlacedAt places source)))
+  pub begin-asks : (0 < 2048) × ((query .source < 2048) × ((0 < noCost) × (Room places before × PlacedAt places (query .source))))
   begin-asks =
       let room : Room places before = rw nobodys (empty-room (placed .size)) in
-      (omega arith, (omega (arith, placed .few), (omega arith, (room, placed-at placing source inside))))
+      (omega arith, (omega (arith, placed .few), (omega arith, (room, placed-at placing (query .source) inside))))
 
-  pub begun-image : {list : List ℕ} {m : Memory} → Relaxed places 0 source 0 before m
+  pub begun-image : {list : List ℕ} {m : Memory} → Relaxed places 0 (query .source) 0 before m
       → length (directoryOf image) ≤ length list
-      → Underway (serving df image source) image 0 places (replicate 17152 0) m list
+      → Underway (serving query image) image 0 places (replicate 17152 0) m list
   begun-image r room = record {
     formed = well;
     known = record {

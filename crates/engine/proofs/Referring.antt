@@ -1,6 +1,6 @@
 -- One reference on an image. The least key of all names the first station that waits, or nobody does. A good page's
 -- rows are the moves that the net's page offers, so that it can be taken in hand; a bad one ends the search.
-use Rattle.common.proofs.Ground.{_≡_, refl, sym, _∙_, ap, Bool, List, [], _∷_, map, ℕ, suc, _%_, _≤_, _<_, arith}
+use Rattle.common.proofs.Ground.{_≡_, refl, sym, _∙_, ap, List, [], _∷_, map, ℕ, suc, _%_, _≤_, _<_, arith}
 use Rattle.common.proofs.Ground.{length, getD, set, take, lt-ltb, le-ltb}
 use Rattle.common.specs.Numbers.{nobody}
 use Rattle.net.specs.declared.Choice.the-variants.{Station, Nobody}
@@ -18,6 +18,7 @@ use Rattle.layout.specs.Rows.{entryOf}
 use Rattle.queue.specs.Keys.{leastIn}
 use Rattle.queue.specs.Queue.{leavesOf}
 use Rattle.relax.specs.Cells.{Memory}
+use Rattle.engine.specs.declared.Query.{Query}
 use Rattle.engine.specs.Board.{leastOn, chosen, Serving, frameOf}
 use Rattle.engine.specs.Map.{mapFrame, netMove, offered, mapPage}
 use Rattle.engine.specs.Hand.{stateAfter, Stands, rowsOf, Hand}
@@ -74,18 +75,18 @@ lists {q} {k} n = record {
   list = refl;
 }
 
-module _ {df : Bool} (image : List ℕ) {source k key u p : ℕ} {places : List ℕ} {m : Memory}
-    (n : Next (serving df image source) k places m key u p) where
+module _ (query : Query) (image : List ℕ) {k key u p : ℕ} {places : List ℕ} {m : Memory}
+    (n : Next (serving query image) k places m key u p) where
   pub hand-image : {layout : List ℕ} {turns : ℕ} → Known image layout × PageKnown image p layout
-      → turns ≡ turnLimit df (mapFrame image) → Hand (serving df image source) k p places layout turns key m
+      → turns ≡ turnLimit (query .df) (mapFrame image) → Hand (serving query image) k p places layout turns key m
   unfolding mapPage
   hand-image {layout} (known, laid) limit =
       let moves : ℕ → List NetMove = λ v. map netMove (movesIn (laid .stations) v) in
       record {
         moves = moves;
         turns = 0;
-        state = withPage p (stateAfter (serving df image source) k);
-        in-hand = rw (n .on) at (hand-begins (n .stands .board .placing .sound) df k (n .first) moves
+        state = withPage p (stateAfter (serving query image) k);
+        in-hand = rw (n .on) at (hand-begins (n .stands .board .placing .sound) (query .df) k (n .first) moves
             (rw (n .on) (ap offered (laid .reads))));
         count = omega arith;
         size = known .size;
@@ -96,8 +97,8 @@ module _ {df : Bool} (image : List ℕ) {source k key u p : ℕ} {places : List 
       }
 
   pub refused-image : {number offset : ℕ} → readingOf image p ≡ bad number offset
-      → (stateAfter (serving df image source) (suc k)) .halt ≡ refused number p offset
+      → (stateAfter (serving query image) (suc k)) .halt ≡ refused number p offset
   unfolding mapPage
   refused-image {number} {offset} e =
-      rw (n .on) at (ap (λ t. t .halt) (reference-bad (n .stands .board .placing .sound) df k (n .first) number offset
+      rw (n .on) at (ap (λ t. t .halt) (reference-bad (n .stands .board .placing .sound) (query .df) k (n .first) number offset
       (rw (n .on) (ap offered e))))

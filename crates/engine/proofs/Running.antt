@@ -1,23 +1,23 @@
 -- The run on an image: what one reference more leaves, and how the run ends. Where nobody waits, or after a bad page,
 -- the state is the end of the net's run, which is the search by the letter.
-use Rattle.common.proofs.Ground.{_≡_, refl, sym, _∙_, ap, subst, Bool, List, [], _∷_, append-assoc, ℕ, suc, _+_, _≤_}
+use Rattle.common.proofs.Ground.{_≡_, refl, sym, _∙_, ap, subst, List, [], _∷_, append-assoc, ℕ, suc, _+_, _≤_}
 use Rattle.common.proofs.Ground.{_<_, arith, add-one, length, getD, drop, length-append, length-drop, length-set}
 use Rattle.common.proofs.Ground.{drop-cons, set-at}
 use Rattle.net.specs.declared.Choice.the-variants.{Nobody}
 use Rattle.net.specs.Net.{Frame}
 use Rattle.net.specs.Search.{start, iter}
 use Rattle.net.specs.Run.{searchOf, unmarked, firstWaiting}
-use Rattle.net.proofs.Sound.{Sound}
 use Rattle.net.proofs.Steps.Waiting.{nobody-refused}
 use Rattle.net.proofs.Runs.{run-is-search, run-stops}
 use Rattle.relax.specs.Cells.{Memory}
+use Rattle.engine.specs.declared.Query.{Query}
 use Rattle.engine.specs.declared.Reference.the-variants.{NobodyWaits, Made, Bad}
 use Rattle.engine.specs.declared.Ended.the-variants.{Over, BadPage}
-use Rattle.engine.specs.Map.{mapFrame, mapPage}
+use Rattle.engine.specs.Map.{mapFrame}
 use Rattle.engine.specs.Board.{Serving}
 use Rattle.engine.specs.Hand.{stateAfter}
 use Rattle.engine.specs.Standing.{serving, Underway, Lists, Referred}
-use Rattle.engine.specs.Ending.{Listed, EndedAs}
+use Rattle.engine.specs.Ending.{Listed, EndedAs, EndedOn}
 
 -- After k references, with the list as it was before the first of them.
 pub record RunSoFar (q : Serving) (image : List ℕ) (k : ℕ) (places layout : List ℕ) (m : Memory) (before list : List ℕ)
@@ -31,10 +31,10 @@ pub run-start : {q : Serving} {image places layout list : List ℕ} {m : Memory}
 unfolding iter start
 run-start u = record { underway = u; listed = (refl, refl); few = omega arith }
 
-module _ {df : Bool} {source k : ℕ} {image places layout before list : List ℕ} {m : Memory}
-    (g : RunSoFar (serving df image source) image k places layout m before list) where
+module _ (query : Query) {k : ℕ} {image places layout before list : List ℕ} {m : Memory}
+    (g : RunSoFar (serving query image) image k places layout m before list) where
   abbrev q : Serving
-  q = serving df image source
+  q = serving query image
 
   abbrev F : Frame
   F = mapFrame image
@@ -66,23 +66,22 @@ module _ {df : Bool} {source k : ℕ} {image places layout before list : List �
   })
 
   -- The end of the run, where nobody waits or after a bad page, is the search by the letter but for the marks.
-  ended : (j : ℕ) → firstWaiting df F (stateAfter q j) ≡ Nobody
-      → unmarked (stateAfter q j) ≡ unmarked (searchOf df F (mapPage image) source)
-  ended j none = ap unmarked (run-stops ok df j none) ∙ sym (run-is-search ok df)
-    where
-      ok : Sound F (mapPage image) source
-      ok = g .underway .stands .board .placing .sound
+  ended : (j : ℕ) → firstWaiting (q .df) F (stateAfter q j) ≡ Nobody
+      → unmarked (stateAfter q j) ≡ unmarked (searchOf (q .df) F (q .page) (q .source))
+  ended j none =
+      let ok = g .underway .stands .board .placing .sound in
+      ap unmarked (run-stops ok (q .df) j none) ∙ sym (run-is-search ok (q .df))
 
   pub nobody-ends : {list′ : List ℕ} {m′ : Memory} → Referred q image k places layout m′ list list′ NobodyWaits
-      → EndedAs F source (searchOf df F (mapPage image) source) (m′ .cells) before list′ (Over k)
+      → EndedOn query image (m′ .cells) before list′ (Over k)
   nobody-ends {list′} {m′} (none, stands, same) =
-      subst (λ t. EndedAs F source t (m′ .cells) before list′ (Over k)) (ended k none)
+      subst (λ t. EndedAs F (q .source) t (m′ .cells) before list′ (Over k)) (ended k none)
       (stands .going, (g .listed .0, same ∙ g .listed .1), λ v h. stands .board .station v h .0)
 
   pub bad-ends : (cells : List ℕ) {number p offset : ℕ} {list′ : List ℕ}
       → Referred q image k places layout m list list′ (Bad number p offset)
-      → EndedAs F source (searchOf df F (mapPage image) source) cells before list′ (BadPage number p offset (k + 1))
+      → EndedOn query image cells before list′ (BadPage number p offset (k + 1))
   bad-ends cells {number} {p} {offset} {list′} (halted, next) = rw (add-one k)
-      (subst (λ t. EndedAs F source t cells before list′ (BadPage number p offset (suc k)))
-      (ended (suc k) (nobody-refused df F (stateAfter q (suc k)) number p offset halted))
+      (subst (λ t. EndedAs F (q .source) t cells before list′ (BadPage number p offset (suc k)))
+      (ended (suc k) (nobody-refused (q .df) F (stateAfter q (suc k)) number p offset halted))
       (halted, listed-more next))

@@ -6,8 +6,11 @@ use Prim.Native.Nat.{ℕ, _<_}
 use lib.ListN.{length, getD, drop}
 use Rattle.net.specs.Net.{Frame}
 use Rattle.net.specs.Search.{State, going, refused, timeOf, predOf}
+use Rattle.net.specs.Run.{searchOf}
+use Rattle.engine.specs.declared.Query.{Query}
 use Rattle.engine.specs.declared.Ended.{Ended}
 use Rattle.engine.specs.declared.Ended.the-variants.{Over, BadPage}
+use Rattle.engine.specs.Map.{mapFrame, mapPage}
 use Rattle.engine.specs.Board.{CellIs}
 
 -- Each station's cell holds its time and predecessor in state s.
@@ -24,3 +27,9 @@ EndedAs F source s cells before list (Over count) =
     (s .halt ≡ going) × Listed s before list count × CellsHold F source s cells
 EndedAs F source s cells before list (BadPage number p offset count) =
     (s .halt ≡ refused number p offset) × Listed s before list count
+
+-- The search that a query asks for on an image has ended, as the search by the letter does.
+abbrev pub EndedOn : Query → List ℕ → List ℕ → List ℕ → List ℕ → Ended → Type 0
+EndedOn query image =
+    EndedAs (mapFrame image) (query .source)
+    (searchOf (query .df) (mapFrame image) (mapPage image) (query .source))

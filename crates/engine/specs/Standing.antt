@@ -1,7 +1,6 @@
 -- How the engine stands between references: what it has laid out of the pages read so far, its working memory as the
 -- state of the net's run, and what one reference more comes to.
 use mathlib.Core.Path.{_≡_}
-use mathlib.Core.Bool.{Bool}
 use mathlib.Core.List.{List, [], _∷_, _++_}
 use Prim.Native.Nat.{ℕ, suc, _≤_, _<_}
 use lib.ListN.{length, getD, set}
@@ -17,6 +16,7 @@ use Rattle.page.specs.Check.{readingOf}
 use Rattle.page.specs.Laying.{PageLaid}
 use Rattle.layout.specs.Rows.{endOf}
 use Rattle.relax.specs.Cells.{Memory}
+use Rattle.engine.specs.declared.Query.{Query}
 use Rattle.engine.specs.declared.Reference.{Reference}
 use Rattle.engine.specs.declared.Reference.the-variants.{NobodyWaits, Made}
 use Rattle.engine.specs.declared.Reference.the-variants.{Bad as BadReference}
@@ -42,10 +42,15 @@ abbrev pub Fetched : List ℕ → ℕ → List ℕ → Verdict → Type 0
 Fetched image p layout Good = Known image layout × PageKnown image p layout
 Fetched image p layout (Bad number offset) = readingOf image p ≡ bad number offset
 
--- A search on an image, with the one comparison.
-abbrev pub serving : Bool → List ℕ → ℕ → Serving
-serving df image source =
-    record { df = df; directory = directoryOf image; count = pageCount image; page = mapPage image; source = source }
+-- The search that a query asks for on an image.
+abbrev pub serving : Query → List ℕ → Serving
+serving query image = record {
+  df = query .df;
+  directory = directoryOf image;
+  count = pageCount image;
+  page = mapPage image;
+  source = query .source;
+}
 
 -- After k references of a search on an image that is well formed: what was laid out is known, the memory stands for the
 -- net's state, and the list has room for as many references as a search can make.

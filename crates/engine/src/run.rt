@@ -6,9 +6,9 @@ ghost use lib.ListN.{length, replicate};
 ghost use Rattle.common.specs.Numbers.{nobody};
 ghost use Rattle.image.specs.Image.{directoryOf, headingCheck, accepted};
 ghost use Rattle.relax.specs.Cells.{memory};
-ghost use Rattle.net.specs.Run.{searchOf, turnLimit};
-ghost use Rattle.engine.specs.Map.{mapFrame, mapPage};
-ghost use Rattle.engine.specs.Ending.{EndedAs};
+ghost use Rattle.net.specs.Run.{turnLimit};
+ghost use Rattle.engine.specs.Map.{mapFrame};
+ghost use Rattle.engine.specs.Ending.{EndedOn};
 ghost use Rattle.engine.specs.Standing.{serving, Underway, Referred};
 use super::Ended;
 use super::Query;
@@ -54,9 +54,9 @@ fn refer(
     queue: &mut [u64],
     list: &mut [u8],
 ) -> Reference
-    requires underway { ⌜ Underway (serving (query .df) (now image) (query .source)) (now image) count (now places)
+    requires underway { ⌜ Underway (serving query (now image)) (now image) count (now places)
         (now layout) (memory (now cells) (now waiting) (now queue)) (now list) ⌝ }
-    ensures referred { λ r. ⌜ Referred (serving (query .df) (now (image .entry)) (query .source)) (now (image .entry))
+    ensures referred { λ r. ⌜ Referred (serving query (now (image .entry))) (now (image .entry))
         count (now (places .entry))
         (now (layout .exit)) (memory (now (cells .exit)) (now (waiting .exit)) (now (queue .exit)))
         (now (list .entry)) (now (list .exit)) r ⌝ }
@@ -95,12 +95,10 @@ fn run(
     queue: &mut [u64],
     list: &mut [u8],
 ) -> Ended
-    requires begun { ⌜ Underway (serving (query .df) (now image) (query .source)) (now image) 0 (now places)
+    requires begun { ⌜ Underway (serving query (now image)) (now image) 0 (now places)
         (now layout) (memory (now cells) (now waiting) (now queue)) (now list) ⌝ }
     ensures ended { λ r. ⌜
-        EndedAs (mapFrame (now (image .entry))) (query .source)
-        (searchOf (query .df) (mapFrame (now (image .entry))) (mapPage (now (image .entry))) (query .source))
-        (now (cells .exit)) (now (list .entry)) (now (list .exit)) r ⌝ }
+        EndedOn query (now (image .entry)) (now (cells .exit)) (now (list .entry)) (now (list .exit)) r ⌝ }
 {
     let mut count: usize = 0;
     loop {
@@ -144,9 +142,7 @@ pub fn search(query: Query, image: &[u8], cells: &mut [u64], list: &mut [u8]) ->
     requires cells { ⌜ now cells ≡ replicate 2048 nobody ⌝ }
     requires room { ⌜ length (directoryOf (now image)) ≤ length (now list) ⌝ }
     ensures ended { λ r. ⌜
-        EndedAs (mapFrame (now (image .entry))) (query .source)
-        (searchOf (query .df) (mapFrame (now (image .entry))) (mapPage (now (image .entry))) (query .source))
-        (now (cells .exit)) (now (list .entry)) (now (list .exit)) r ⌝ }
+        EndedOn query (now (image .entry)) (now (cells .exit)) (now (list .entry)) (now (list .exit)) r ⌝ }
 {
     let mut places = [0u16; PLACES];
     let mut layout = [0u32; LAYOUT];

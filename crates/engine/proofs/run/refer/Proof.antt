@@ -42,7 +42,7 @@ module _ (known : tie.After-page-at) where
   image = now (begun .args .image)
 
   abbrev q : Serving
-  q = serving (begun .args .query .df) image (begun .args .query .source)
+  q = serving (begun .args .query) image
 
   abbrev tables : Memory
   tables = memory (now (begun .args .cells)) (now (begun .args .waiting)) (now (begun .args .queue))
@@ -80,7 +80,7 @@ module _ (limited : tie.After-turns-of) where
   taken : Hand (q (known named)) (begun (known named) .args .count) (known named .page-at .result)
       (now (begun (known named) .args .places)) (named .fetch .last .1 .1 .1 .1 .0) (limited .turns-of .result)
       (known named .before .before .before .top .result) (tables (known named))
-  taken = hand-image (image (known named)) (next (known named))
+  taken = hand-image (begun (known named) .args .query) (image (known named)) (next (known named))
       (fetched named Good (limited .before .enum-told .given .1)) (limited .turns-of .ensures)
 
 work-page-requires : tie.Need-work-page-requires
@@ -103,7 +103,7 @@ returns-3 : tie.Need-returns-3
 returns-3 c =
     let read = c .before .before .before .before .before in
     let known = known read in
-    (refused-image (image known) (next known) (fetched read _ (c .before .number .given .1)), lists (next known))
+    (refused-image (begun known .args .query) (image known) (next known) (fetched read _ (c .before .number .given .1)), lists (next known))
 
 pub refer-spec : {M : Type 1} → statement M
 refer-spec =

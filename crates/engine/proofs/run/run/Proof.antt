@@ -12,7 +12,7 @@ use Rattle.engine.proofs.run.run.Tie as tie
 
 abbrev Inv-loop : tie.InvT-loop
 Inv-loop query image places layout₀ cells₀ waiting₀ queue₀ list₀ count₀ layout cells waiting queue list count =
-    RunSoFar (serving (query .df) image (query .source)) image count places layout (memory cells waiting queue) list₀
+    RunSoFar (serving query image) image count places layout (memory cells waiting queue) list₀
     list × ((length layout ≡ length layout₀) × (length cells ≡ length cells₀) × (length waiting ≡ length waiting₀)
     × (length queue ≡ length queue₀) × (length list ≡ length list₀))
 
@@ -35,7 +35,7 @@ module _ (made : tie.After-slice-known10 Inv-loop μ-loop) where
   CameTo =
       let args = loop .before .before .before .before .before .before .before .before .args in
       let left = referred .refer .last .1 .1 .1 .1 in
-      Referred (serving (args .query .df) (now (args .image)) (args .query .source)) (now (args .image))
+      Referred (serving (args .query) (now (args .image))) (now (args .image))
       (loop .loop .count) (now (args .places)) (left .0) (memory (left .1 .0) (left .1 .1 .0) (left .1 .1 .1 .0))
       (loop .loop .list) (left .1 .1 .1 .1 .0)
 
@@ -45,7 +45,7 @@ module _ (made : tie.After-slice-known10 Inv-loop μ-loop) where
 returns : tie.Need-returns Inv-loop μ-loop
 returns c =
     let made = c .before .before in
-    nobody-ends (loop made .loop .inv .0) (came-to made _ (c .enum-told .given .1))
+    nobody-ends _ (loop made .loop .inv .0) (came-to made _ (c .enum-told .given .1))
 
 loop-less : tie.Need-loop-less Inv-loop μ-loop
 loop-less c =
@@ -55,13 +55,13 @@ loop-less c =
 loop-again : tie.Need-loop-again Inv-loop μ-loop
 loop-again c =
     let made = c .before .before in
-    (run-more (loop made .loop .inv .0) (came-to made _ (c .enum-told2 .given .1)), search needs)
+    (run-more _ (loop made .loop .inv .0) (came-to made _ (c .enum-told2 .given .1)), search needs)
 
 returns-2 : tie.Need-returns-2 Inv-loop μ-loop
 returns-2 c =
     let made = c .before .before .before in
     let cells = referred made .refer .last .1 .1 .1 .1 .1 .0 in
-    bad-ends (loop made .loop .inv .0) cells (came-to made _ (c .before .number .given .1))
+    bad-ends _ (loop made .loop .inv .0) cells (came-to made _ (c .before .number .given .1))
 
 pub run-spec : {M : Type 1} → statement M
 run-spec =

@@ -34,7 +34,7 @@ offer-requires c κs =
     let settled = c .before .before .before .before .before .before in
     let query = start settled .args .query in
     let (formed, (inside, (nobodys, room))) = start settled .pre in
-    begin-asks (query .df) (image settled) (query .source) (bytes settled) formed inside (placed settled) nobodys
+    begin-asks query (image settled) (bytes settled) formed inside (placed settled) nobodys
 
 run-requires : tie.Need-run-requires
 run-requires c κs =
@@ -42,7 +42,7 @@ run-requires c κs =
     let settled = begun .before .before .before .before .before .before .before in
     let query = start settled .args .query in
     let (formed, (inside, (nobodys, room))) = start settled .pre in
-    begun-image (query .df) (image settled) (query .source) (bytes settled) formed inside (placed settled) nobodys
+    begun-image query (image settled) (bytes settled) formed inside (placed settled) nobodys
     (begun .offer .ensures) room
 
 pub search-spec : {M : Type 1} → statement M
