@@ -1,10 +1,16 @@
--- For the code: the reply to a call, by how the engine's search ended.
+-- For the code: what its query asks, and the reply to a call, by how the engine's search ended.
 use mathlib.Core.Bool.{Bool, true, false}
+use mathlib.Core.List.{List}
 use Prim.Native.Nat.{ℕ}
 use Rattle.image.specs.Image.{accepted, refused, on-page}
+use Rattle.engine.specs.declared.Query as engine
 use Rattle.engine.specs.declared.Ended.{Ended}
 use Rattle.engine.specs.declared.Ended.the-variants.{Over, BadPage}
-use Rattle.search.specs.Reply.{Reply, reply}
+use Rattle.search.specs.Reply.{Query, asked, Reply, reply}
+
+-- What the code's query asks of an image; the flag, which search it is, is not part of it.
+abbrev pub askedBy : engine.Query → List ℕ → Query
+askedBy query image = asked image (query .source)
 
 abbrev pub isOver : Ended → Bool
 isOver (Over count) = true

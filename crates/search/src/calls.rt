@@ -10,6 +10,7 @@ ghost use Rattle.net.specs.Search.{plainSearch};
 ghost use Rattle.image.specs.Image.{accepted, outcomeOf};
 ghost use Rattle.search.specs.Reply.{asked, lent, returned, sixOrSeven, callCheck, onMap, searched};
 ghost use Rattle.search.specs.Promises.{Promised, DfPromised};
+ghost use Rattle.search.specs.Answering.{askedBy};
 use super::Answer;
 use super::answers::answer_of;
 use super::answers::is_over;
@@ -61,21 +62,21 @@ fn check_tables(
 
 // Refusals 1 to 7, in this order.
 fn check_call(
+    query: Query,
     image: &[u8],
-    source: u16,
     times: &[u32],
     preds: &[u16],
     marks: &[u8],
     list: &[u8],
 ) -> Checked
     ensures outcome { λ r. ⌜
-        outcomeOf r ≡ callCheck (asked (now (image .entry)) source)
+        outcomeOf r ≡ callCheck (askedBy query (now (image .entry)))
         (lent (now (times .entry)) (now (preds .entry)) (now (marks .entry)) (now (list .entry))) ⌝ }
 {
     match check_heading(image) {
         Checked::Whole => check_tables(
             station_count(image),
-            source,
+            query.source,
             times.len(),
             preds.len(),
             marks.len(),
@@ -96,11 +97,11 @@ fn on_map(
     list: &mut [u8],
 ) -> Answer
     requires passed { ⌜
-        callCheck (asked (now image) (query .source)) (lent (now times) (now preds) (now marks) (now list)) ≡
+        callCheck (askedBy query (now image)) (lent (now times) (now preds) (now marks) (now list)) ≡
         accepted ⌝ }
     ensures outcome { λ r. ⌜
         returned r (now (times .exit)) (now (preds .exit)) (now (marks .exit)) (now (list .exit)) ≡
-        onMap (searchOf (query .df)) (asked (now (image .entry)) (query .source))
+        onMap (searchOf (query .df)) (askedBy query (now (image .entry)))
         (lent (now (times .entry)) (now (preds .entry)) (now (marks .entry)) (now (list .entry))) ⌝ }
 {
     let mut cells = [NOBODY; 2048];
@@ -128,10 +129,10 @@ fn search(
 ) -> Answer
     ensures outcome { λ r. ⌜
         returned r (now (times .exit)) (now (preds .exit)) (now (marks .exit)) (now (list .exit)) ≡
-        searched (searchOf (query .df)) (asked (now (image .entry)) (query .source))
+        searched (searchOf (query .df)) (askedBy query (now (image .entry)))
         (lent (now (times .entry)) (now (preds .entry)) (now (marks .entry)) (now (list .entry))) ⌝ }
 {
-    match check_call(image, query.source, times, preds, marks, list) {
+    match check_call(query, image, times, preds, marks, list) {
         Checked::Whole => on_map(query, image, times, preds, marks, list),
         Checked::Refused(refusal) => Answer::Refused { refusal, count: 0 },
     }
