@@ -116,8 +116,8 @@ module _ {q : Serving} {places : List ℕ} (placing : Placing q places) {m : Mem
 
 -- On an image: its net is sound, its stations are placed, and nothing of it is laid out in a table of zeros.
 module _ (query : Query) (image : List ℕ) (bytes : Bytes image) (well : headingCheck image ≡ accepted)
-    (inside : query .source < length (directoryOf image)) {places cells : List ℕ} (placed : Placed (directoryOf image) places)
-    (nobodys : cells ≡ empty .cells) where
+    (inside : query .source < length (directoryOf image)) {places cells : List ℕ}
+    (placed : Placed (directoryOf image) places) (nobodys : cells ≡ empty .cells) where
   abbrev before : Memory
   before = memory cells (empty .waiting) (empty .queue)
 
@@ -133,7 +133,8 @@ module _ (query : Query) (image : List ℕ) (bytes : Bytes image) (well : headin
       }
 
   -- what the offer asks, and what it leaves
-  pub begin-asks : (0 < 2048) × ((query .source < 2048) × ((0 < noCost) × (Room places before × PlacedAt places (query .source))))
+  pub begin-asks : (0 < 2048)
+      × ((query .source < 2048) × ((0 < noCost) × (Room places before × PlacedAt places (query .source))))
   begin-asks =
       let room : Room places before = rw nobodys (empty-room (placed .size)) in
       (omega arith, (omega (arith, placed .few), (omega arith, (room, placed-at placing (query .source) inside))))

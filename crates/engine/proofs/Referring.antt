@@ -100,5 +100,6 @@ module _ (query : Query) (image : List ℕ) {k key u p : ℕ} {places : List ℕ
       → (stateAfter (serving query image) (suc k)) .halt ≡ refused number p offset
   unfolding mapPage
   refused-image {number} {offset} e =
-      rw (n .on) at (ap (λ t. t .halt) (reference-bad (n .stands .board .placing .sound) (query .df) k (n .first) number offset
+      let ok = n .stands .board .placing .sound in
+      rw (n .on) at (ap (λ t. t .halt) (reference-bad ok (query .df) k (n .first) number offset
       (rw (n .on) (ap offered e))))

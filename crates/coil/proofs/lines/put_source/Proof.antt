@@ -1,4 +1,4 @@
--- `put_source`: each number is put behind the front of the line that is written already (proofs/Placing.antt). No
+-- `put_source`: each number is put behind the front of the line that is written already (proofs/Fronting.antt). No
 -- place is past the most that three numbers of twenty digits take.
 use Rattle.coil.proofs.Fronting.{fronted-none, fronted-more}
 use Rattle.text.specs.Text.{ascii, named}

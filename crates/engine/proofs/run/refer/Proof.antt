@@ -103,7 +103,8 @@ returns-3 : tie.Need-returns-3
 returns-3 c =
     let read = c .before .before .before .before .before in
     let known = known read in
-    (refused-image (begun known .args .query) (image known) (next known) (fetched read _ (c .before .number .given .1)), lists (next known))
+    let bad = fetched read _ (c .before .number .given .1) in
+    (refused-image (begun known .args .query) (image known) (next known) bad, lists (next known))
 
 pub refer-spec : {M : Type 1} → statement M
 refer-spec =
