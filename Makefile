@@ -48,13 +48,16 @@ libyard:
 
 C99 := $(CC) -std=c99 -O2 -Wall -Wextra -Werror -pedantic -Iinclude
 
-# Builds the C program of README.md and runs it once for each of its statuses 0 to 3 (needs a C compiler).
+# Builds the C program of README.md and runs it: each of its statuses 0 to 3, and strips that a way is closed to (needs C).
 c-example: libyard
 	$(C99) -o target/way examples/way.c target/staticlib/libyard.a
 	target/way crates/coils/data/yard.map 0 6
 	target/way examples/plate/yard.map 396 0; test $$? = 1
 	target/way crates/coils/data/yard.map 0 -1; test $$? = 2
 	target/way crates/coils/data/yard.map 6 0; test $$? = 3
+	target/way examples/plate/yard.map 203 202 8440
+	target/way examples/plate/yard.map 203 202 8441
+	target/way examples/plate/yard.map 203 204 12001; test $$? = 3
 
 # Measures the stack of each call of the C interface, on full and on damaged maps (needs a C compiler and ucontext).
 stack: libyard
@@ -84,6 +87,8 @@ bench-base:
 	rm -rf target/base
 	git clone -q . target/base
 	git -C target/base checkout -q --detach $(COMMIT)
+	@test "$$(grep YARD_VERSION_MAJOR target/base/include/yard.h)" = "$$(grep YARD_VERSION_MAJOR include/yard.h)" || \
+	    { echo 'The C interface of $(COMMIT) has other arguments: it cannot be called by bench.'; exit 1; }
 	cd target/base && rt staticlib yard
 	@echo 'Now: make bench BASE=target/base/target/staticlib/libyard.a'
 

@@ -1,9 +1,11 @@
 //! The baselines: Dijkstra's search as one writes it in Rust without proofs. One pass over the image checks it and
-//! collects the moves; then the search runs with the standard library's heap and lazy deletion. It gives what the plain
-//! search gives: times, lowest predecessors, page list, stations reached. It comes in two grades, by how the moves are
-//! kept and what the heap compares: straightforward (a vector of moves for each station, time and station as a pair)
-//! and tuned (all moves in one vector with a range for each station, time and station in one word).
+//! collects the moves that are open to the strip; then the search runs with the standard library's heap and lazy
+//! deletion. It gives what the plain search gives: times, lowest predecessors, page list, stations reached. It comes in
+//! two grades, by how the moves are kept and what the heap compares: straightforward (a vector of moves for each
+//! station, time and station as a pair) and tuned (all moves in one vector with a range for each station, time and
+//! station in one word).
 
+use outside::reference::Query;
 use std::cmp::Reverse;
 use std::collections::BinaryHeap;
 use std::ops::Range;
@@ -67,8 +69,8 @@ pub struct Graph<'a, M> {
     moves: M,
 }
 
-/// The graph of a good image; none for any other.
-pub fn parse<M: Moves>(image: &[u8]) -> Option<Graph<'_, M>> {
+/// The graph of a good image, of the moves open to a strip; none for any other image.
+pub fn parse<M: Moves>(image: &[u8], strip: u16) -> Option<Graph<'_, M>> {
     let (heading, rest) = image.split_first_chunk::<4>()?;
     let stations = usize::from(u16::from_le_bytes([heading[0], heading[1]]));
     let pages = usize::from(u16::from_le_bytes([heading[2], heading[3]]));
@@ -80,15 +82,15 @@ pub fn parse<M: Moves>(image: &[u8]) -> Option<Graph<'_, M>> {
     let mut graph = Graph { directory, moves };
     let mut named = 0;
     for (page, bytes) in page_bytes.chunks_exact(PAGE_BYTES).enumerate() {
-        named += graph.parse_page(page as u8, bytes)?;
+        named += graph.parse_page(page as u8, bytes, strip)?;
     }
     // Each page names stations of its own only, each once, so the number tells whether one is missing.
     (named == stations).then_some(graph)
 }
 
 impl<M: Moves> Graph<'_, M> {
-    /// Takes a page's moves in, and tells how many stations it names.
-    fn parse_page(&mut self, page: u8, mut bytes: &[u8]) -> Option<usize> {
+    /// Takes a page's open moves in, and tells how many stations it names.
+    fn parse_page(&mut self, page: u8, mut bytes: &[u8], strip: u16) -> Option<usize> {
         let mut named = 0;
         let mut station: Option<u16> = None;
         let mut last_target: Option<u16> = None;
@@ -108,18 +110,36 @@ impl<M: Moves> Graph<'_, M> {
                 [2, target_low, target_high, time_low, time_high, rest @ ..] => {
                     let target = u16::from_le_bytes([*target_low, *target_high]);
                     let time = u16::from_le_bytes([*time_low, *time_high]);
-                    let from = station?;
-                    let good = usize::from(target) < self.directory.len() && target != from && time != 0;
-                    if !good || last_target >= Some(target) {
+                    self.take_move(station?, last_target, target, time, true)?;
+                    last_target = Some(target);
+                    bytes = rest;
+                }
+                [3, target_low, target_high, time_low, time_high, limit_low, limit_high, rest @ ..] => {
+                    let target = u16::from_le_bytes([*target_low, *target_high]);
+                    let time = u16::from_le_bytes([*time_low, *time_high]);
+                    let limit = u16::from_le_bytes([*limit_low, *limit_high]);
+                    if limit == 0 {
                         return None;
                     }
-                    self.moves.push(from, target, time);
+                    self.take_move(station?, last_target, target, time, limit >= strip)?;
                     last_target = Some(target);
                     bytes = rest;
                 }
                 _ => return None,
             }
         }
+    }
+
+    /// Takes a move in if it is open; none if it is not a good one.
+    fn take_move(&mut self, from: u16, last: Option<u16>, target: u16, time: u16, open: bool) -> Option<()> {
+        let good = usize::from(target) < self.directory.len() && target != from && time != 0;
+        if !good || last >= Some(target) {
+            return None;
+        }
+        if open {
+            self.moves.push(from, target, time);
+        }
+        Some(())
     }
 }
 
@@ -154,12 +174,12 @@ impl Key for u64 {
 /// Dijkstra's search from image bytes: the list's count and the number of stations reached.
 pub fn search<M: Moves, K: Key>(
     image: &[u8],
-    source: u16,
+    Query { source, strip }: Query,
     times: &mut [u32],
     preds: &mut [u16],
     list: &mut [u8],
 ) -> Option<(u32, u32)> {
-    let graph = parse::<M>(image)?;
+    let graph = parse::<M>(image, strip)?;
     times.fill(u32::MAX);
     preds.fill(65_535);
     times[usize::from(source)] = 0;

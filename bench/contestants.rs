@@ -6,9 +6,12 @@
 use crate::base;
 use crate::baseline::{self, Joined};
 use outside::maps::{Map, MOST_STATIONS};
-use outside::reference::{Search, Tables};
+use outside::reference::{Query, Search, Tables};
 use outside::yard;
 use std::fmt;
+
+/// The strip that is searched for, in decimetres. The maps that are measured have no limits.
+pub const STRIP: u16 = 8_120;
 
 #[derive(Clone, Copy, PartialEq, Eq)]
 pub enum Name {
@@ -70,33 +73,33 @@ pub fn all<'a>(map: &Map, image: &'a [u8]) -> Vec<Box<dyn Contestant + 'a>> {
 }
 
 /// A search from the bytes of a map: the list's count and the number of stations reached.
-type Call = fn(&[u8], u16, Tables) -> Option<(u32, u32)>;
+type Call = fn(&[u8], Query, Tables) -> Option<(u32, u32)>;
 
 const FROM_BYTES: &[(Name, Call)] = &[
-    (Name::Plain, |image, source, tables| engine(yard::search, Search::Plain, image, source, tables)),
-    (Name::Df, |image, source, tables| engine(yard::search, Search::Df, image, source, tables)),
+    (Name::Plain, |image, query, tables| engine(yard::search, Search::Plain, image, query, tables)),
+    (Name::Df, |image, query, tables| engine(yard::search, Search::Df, image, query, tables)),
     #[cfg(base)]
-    (Name::BasePlain, |image, source, tables| engine(base::search, Search::Plain, image, source, tables)),
+    (Name::BasePlain, |image, query, tables| engine(base::search, Search::Plain, image, query, tables)),
     #[cfg(base)]
-    (Name::BaseDf, |image, source, tables| engine(base::search, Search::Df, image, source, tables)),
-    (Name::Straightforward, |image, source, Tables { times, preds, list, .. }| {
-        baseline::search::<Vec<Vec<_>>, (u32, u16)>(image, source, times, preds, list)
+    (Name::BaseDf, |image, query, tables| engine(base::search, Search::Df, image, query, tables)),
+    (Name::Straightforward, |image, query, Tables { times, preds, list, .. }| {
+        baseline::search::<Vec<Vec<_>>, (u32, u16)>(image, query, times, preds, list)
     }),
-    (Name::Tuned, |image, source, Tables { times, preds, list, .. }| {
-        baseline::search::<Joined, u64>(image, source, times, preds, list)
+    (Name::Tuned, |image, query, Tables { times, preds, list, .. }| {
+        baseline::search::<Joined, u64>(image, query, times, preds, list)
     }),
 ];
 
 /// A search of the C interface.
 fn engine(
-    search: fn(Search, &[u8], u16, Tables, &mut [u32]) -> u32,
+    search: fn(Search, &[u8], Query, Tables, &mut [u32]) -> u32,
     kind: Search,
     image: &[u8],
-    source: u16,
+    query: Query,
     tables: Tables,
 ) -> Option<(u32, u32)> {
     let mut answer = [0; 4];
-    let refusal = search(kind, image, source, tables, &mut answer);
+    let refusal = search(kind, image, query, tables, &mut answer);
     (refusal == 0).then_some((answer[0], answer[1]))
 }
 
@@ -145,7 +148,8 @@ impl Contestant for FromBytes<'_> {
     }
 
     fn search(&mut self, source: u16) {
-        let found = (self.call)(self.image, source, self.kept.tables(self.stations));
+        let query = Query { source, strip: STRIP };
+        let found = (self.call)(self.image, query, self.kept.tables(self.stations));
         (self.count, self.reached) = found.expect("the map is good");
     }
 

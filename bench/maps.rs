@@ -112,13 +112,13 @@ impl Shape {
         // A ring, so that every station with a move is reached from every source.
         for station in (0..self.stations).step_by(self.stride) {
             let time = self.time(&mut random);
-            map.add(station, (station + self.stride) % self.stations, time);
+            map.add(station, (station + self.stride) % self.stations, time, None);
         }
         for _ in 0..40 * self.stations {
             let station = self.source(&mut random);
             let target = self.target(&mut random, station);
             let time = self.time(&mut random);
-            map.add(station, target, time);
+            map.add(station, target, time, None);
         }
         map
     }

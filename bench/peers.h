@@ -1,6 +1,7 @@
 /*
- * Searches of other libraries, for the benchmark: each is made from the moves of a map, ready for searches, and gives
- * the time to each station that its last search found. A library that is not installed is left out.
+ * Searches of other libraries, for the benchmark: each is made from the moves of a map that are open to the strip,
+ * ready for searches, and gives the time to each station that its last search found. A library that is not installed is
+ * left out.
  */
 #ifndef PEERS_H
 #define PEERS_H

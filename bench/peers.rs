@@ -1,7 +1,7 @@
 //! The peers: Dijkstra's search of LEMON and of Boost (`lemon.cpp`, `boost.cpp`), on a graph that is made before the
 //! search is timed. They give times and predecessors of their own choice, no page list; the times are compared.
 
-use crate::contestants::{Contestant, Details, Name};
+use crate::contestants::{Contestant, Details, Name, STRIP};
 use outside::maps::Map;
 
 /// `Move` of `peers.h`.
@@ -62,7 +62,8 @@ impl Ready {
     fn new(name: Name, make: Make, map: &Map) -> Option<Self> {
         let mut moves = Vec::new();
         for (from, its) in map.moves.iter().enumerate() {
-            moves.extend(its.iter().map(|(&target, &time)| Move { from: from as u16, target, time }));
+            let open = its.iter().filter(|step| step.is_open(STRIP));
+            moves.extend(open.map(|step| Move { from: from as u16, target: step.target, time: step.time }));
         }
         // SAFETY: the pointer goes with the length of its own slice.
         let peer = unsafe { make(map.stations(), moves.as_ptr(), moves.len()) };

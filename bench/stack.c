@@ -11,7 +11,8 @@
 
 #define STACK_BYTES ((size_t)512 * 1024)
 #define PROMISED ((size_t)256 * 1024)
-#define FULL_MAPS 6
+#define FULL_MAPS 8
+#define LIMITED_FROM 6
 #define DAMAGED_OF_EACH 400
 
 static uint8_t stack[STACK_BYTES];
@@ -20,7 +21,7 @@ static ucontext_t outside, inside;
 /* The call in hand: its arguments, and what it returned. */
 static uint8_t image[YARD_MAX_IMAGE_BYTES];
 static size_t image_len;
-static uint16_t source, station;
+static uint16_t source, length, station;
 static uint32_t times[YARD_MAX_STATIONS], answer[4], returned;
 static uint16_t preds[YARD_MAX_STATIONS], way[YARD_MAX_STATIONS];
 static uint8_t marks[YARD_MAX_STATIONS], list[YARD_MAX_STATIONS];
@@ -38,13 +39,13 @@ static void check(void)
 
 static void plain(void)
 {
-    returned = yard_plain(image, image_len, source, times, YARD_MAX_STATIONS, preds, YARD_MAX_STATIONS,
+    returned = yard_plain(image, image_len, source, length, times, YARD_MAX_STATIONS, preds, YARD_MAX_STATIONS,
                           marks, YARD_MAX_STATIONS, list, YARD_MAX_STATIONS, answer, 4);
 }
 
 static void df(void)
 {
-    returned = yard_df(image, image_len, source, times, YARD_MAX_STATIONS, preds, YARD_MAX_STATIONS,
+    returned = yard_df(image, image_len, source, length, times, YARD_MAX_STATIONS, preds, YARD_MAX_STATIONS,
                        marks, YARD_MAX_STATIONS, list, YARD_MAX_STATIONS, answer, 4);
 }
 
@@ -115,25 +116,30 @@ static size_t put_word(size_t at, uint32_t word)
     return at + 2;
 }
 
-/* A station with up to five moves: one to each fifth of the map, so that the targets rise. */
-static size_t put_station(size_t at, uint32_t own, uint32_t longest)
+/* A station with up to five moves, or three with limits: one to each part of the map, so that the targets rise. */
+static size_t put_station(size_t at, uint32_t own, uint32_t longest, int limited)
 {
-    uint32_t fifth, part = YARD_MAX_STATIONS / 5;
+    uint32_t part, parts = limited ? 3 : 5, stations = YARD_MAX_STATIONS / parts;
 
     image[at++] = 1;
     at = put_word(at, own);
-    for (fifth = 0; fifth < 5; fifth++) {
-        uint32_t target = fifth * part + below(part);
+    for (part = 0; part < parts; part++) {
+        uint32_t target = part * stations + below(stations);
         if (target == own)
             continue;
-        image[at++] = 2;
+        image[at++] = limited ? 3 : 2;
         at = put_word(at, target);
         at = put_word(at, 1 + below(longest));
+        if (limited)
+            at = put_word(at, 1 + below(65535));
     }
     return at;
 }
 
-/* A full map: all stations, all pages, in rows of neighbours (kind even) or dealt out; times up to a longest one. */
+/*
+ * A full map: all stations, all pages, in rows of neighbours (kind even) or dealt out; times up to a longest one; from
+ * kind LIMITED_FROM on all moves have limits.
+ */
 static void put_full_map(uint32_t kind)
 {
     static const uint32_t longest[] = {1, 10, 65535};
@@ -147,7 +153,7 @@ static void put_full_map(uint32_t kind)
         uint32_t page = kind % 2 == 0 ? own * YARD_MAX_PAGES / YARD_MAX_STATIONS : own % YARD_MAX_PAGES;
         size_t begins = pages + (size_t)page * YARD_PAGE_BYTES;
         image[directory + own] = (uint8_t)page;
-        ends[page] = put_station(begins + ends[page], own, longest[kind / 2 % 3]) - begins;
+        ends[page] = put_station(begins + ends[page], own, longest[kind / 2 % 3], kind >= LIMITED_FROM) - begins;
     }
 }
 
@@ -155,6 +161,7 @@ static void put_full_map(uint32_t kind)
 static void measure_all(void)
 {
     source = (uint16_t)below(YARD_MAX_STATIONS);
+    length = (uint16_t)below(65536);
     measure(&of_check);
     measure(&of_plain);
     measure(&of_df);

@@ -11,7 +11,7 @@ type Check = fn(&[u8]) -> bool;
 
 const CHECKS: &[(&str, Check)] = &[
     ("whole check", |image| yard::check(image, &mut [0; 4]) == 0),
-    ("tuned parser", |image| baseline::parse::<Joined>(image).is_some()),
+    ("tuned parser", |image| baseline::parse::<Joined>(image, 0).is_some()),
     #[cfg(base)]
     ("base whole check", |image| crate::base::check(image, &mut [0; 4]) == 0),
 ];

@@ -1,8 +1,9 @@
 /*
- * The way from one station to another: way MAP SOURCE STATION
+ * The way from one station to another for a strip of a length in decimetres: way MAP SOURCE STATION [LENGTH]
+ * Without a length, or with 0, every move is used.
  * Prints the stations on the way, its time and the number of page fetches; or "no route"; or the refusal.
  * Ends with status 0 if there is a way, 1 if the search or the route was refused, 2 if the arguments are not a file
- * that can be read and two whole numbers from 0 to 65,535, and 3 if there is no route.
+ * that can be read and two or three whole numbers from 0 to 65,535, and 3 if there is no route.
  */
 #include <ctype.h>
 #include <errno.h>
@@ -17,7 +18,7 @@ static uint8_t image[YARD_MAX_IMAGE_BYTES + 1], marks[YARD_MAX_STATIONS], list[Y
 static uint32_t times[YARD_MAX_STATIONS];
 static uint16_t preds[YARD_MAX_STATIONS], way[YARD_MAX_STATIONS];
 
-/* A station's number: decimal digits and nothing else (strtoul alone would take a sign and spaces too). */
+/* A number of decimal digits and nothing else (strtoul alone would take a sign and spaces too). */
 static int read_number(const char *text, uint16_t *number)
 {
     char *end;
@@ -34,7 +35,7 @@ static int read_number(const char *text, uint16_t *number)
 }
 
 /* The file's bytes, one more than the longest map has at most, so that a longer file is refused by its length. */
-static int read_map(const char *path, size_t *length)
+static int read_map(const char *path, size_t *image_len)
 {
     FILE *map = fopen(path, "rb");
     int read;
@@ -43,7 +44,7 @@ static int read_map(const char *path, size_t *length)
         fprintf(stderr, "%s: %s\n", path, strerror(errno));
         return 0;
     }
-    *length = fread(image, 1, sizeof image, map);
+    *image_len = fread(image, 1, sizeof image, map);
     read = !ferror(map);
     if (!read)
         fprintf(stderr, "%s: %s\n", path, strerror(errno));
@@ -57,23 +58,24 @@ static enum status refused(const char *call, uint32_t refusal, const uint32_t *a
     printf("%s refused %u: %s", call, (unsigned)refusal, yard_refusal_meaning(refusal));
     if (refusal == YARD_REFUSED_DIRECTORY)
         printf(", station %u", (unsigned)answer[2]);
-    else if (refusal >= YARD_REFUSED_UNKNOWN_CODE && refusal <= YARD_REFUSED_BYTE_AFTER_END)
+    else if ((refusal >= YARD_REFUSED_UNKNOWN_CODE && refusal <= YARD_REFUSED_BYTE_AFTER_END)
+             || refusal == YARD_REFUSED_LIMIT_ZERO)
         printf(", page %u, offset %u", (unsigned)answer[2], (unsigned)answer[3]);
     printf("\n");
     return REFUSED;
 }
 
-/* Searches from the source and prints the way to the station. */
-static enum status find_way(size_t length, uint16_t source, uint16_t station)
+/* Searches from the source for a strip of the length and prints the way to the station. */
+static enum status find_way(size_t image_len, uint16_t source, uint16_t station, uint16_t length)
 {
     uint32_t answer[4], pages, refusal, i;
 
-    refusal = yard_df(image, length, source, times, YARD_MAX_STATIONS, preds, YARD_MAX_STATIONS,
+    refusal = yard_df(image, image_len, source, length, times, YARD_MAX_STATIONS, preds, YARD_MAX_STATIONS,
                       marks, YARD_MAX_STATIONS, list, YARD_MAX_STATIONS, answer, 4);
     if (refusal != YARD_ACCEPTED)
         return refused("search", refusal, answer);
     pages = answer[0];
-    refusal = yard_route(preds, yard_stations(image, length), station, way, YARD_MAX_STATIONS, answer, 4);
+    refusal = yard_route(preds, yard_stations(image, image_len), station, way, YARD_MAX_STATIONS, answer, 4);
     if (refusal != YARD_ACCEPTED)
         return refused("route", refusal, answer);
     if (answer[0] == 0) {
@@ -88,14 +90,16 @@ static enum status find_way(size_t length, uint16_t source, uint16_t station)
 
 int main(int argc, char **argv)
 {
-    uint16_t source, station;
-    size_t length;
+    uint16_t source, station, length = 0;
+    size_t image_len;
 
-    if (argc != 4 || !read_number(argv[2], &source) || !read_number(argv[3], &station)) {
-        fprintf(stderr, "usage: way MAP SOURCE STATION, stations as whole numbers from 0 to 65535\n");
+    if (argc < 4 || argc > 5 || !read_number(argv[2], &source) || !read_number(argv[3], &station)
+        || (argc == 5 && !read_number(argv[4], &length))) {
+        fprintf(stderr, "usage: way MAP SOURCE STATION [LENGTH], stations and the strip's length in decimetres "
+                        "as whole numbers from 0 to 65535\n");
         return USAGE;
     }
-    if (!read_map(argv[1], &length))
+    if (!read_map(argv[1], &image_len))
         return USAGE;
-    return find_way(length, source, station);
+    return find_way(image_len, source, station, length);
 }

@@ -8,6 +8,8 @@
  *     P pages of YARD_PAGE_BYTES, each a row of commands:
  *         01, u16 s            begins station s
  *         02, u16 v, u16 t     a move of that station: to station v, in t tenths of a second, 1 to 65,535
+ *         03, u16 v, u16 t, u16 l
+ *                              such a move with a limit: it takes strips of up to l decimetres, 1 to 65,535
  *         00                   ends the page; zeros follow
  * A page names just its own stations, rising; the targets of a station rise and differ from it. README.md says it at
  * more length, and lists the definitions that say it exactly.
@@ -15,21 +17,21 @@
  * A slice is passed as a pointer and a length in entries; a length of 0 needs a pointer that is not null. The slices
  * of one call must not overlap. No call allocates, and none keeps a pointer.
  *
- * Units: times are in tenths of a second, offsets in bytes, lengths in entries. The length of a strip, in decimetres,
- * stands in coil records only (README.md), which no call of this interface takes.
+ * Units: times are in tenths of a second, the length of a strip in decimetres, offsets in bytes, lengths of slices in
+ * entries.
  *
  * Threads: the library has no variables of its own, so that calls may run at the same time in any threads, also on the
  * same image, as long as no thread uses memory that another thread's call is writing.
  *
  * Stack: a call's stack use stays below 256 KiB. The most that was seen, in bytes, arguments included (`make stack` on
  * x86-64: full maps and damaged ones):
- *     yard_check 77,512    yard_plain 112,680    yard_df 112,680    yard_route 72
+ *     yard_check 77,512    yard_plain 112,712    yard_df 112,712    yard_route 72
  *
- * Each call returns 0 if accepted, else the refusal's number (1 to 17). Where answer has four entries or more, the
+ * Each call returns 0 if accepted, else the refusal's number (1 to 18). Where answer has four entries or more, the
  * first four get
  *     answer[0]  count:   entries of the page list, or stations on the route
  *     answer[1]  reached: stations that have a time, the source among them
- *     answer[2]  page of a page refusal (8 to 14); for refusal 5 the station
+ *     answer[2]  page of a page refusal (8 to 14 and 18); for refusal 5 the station
  *     answer[3]  offset of a page refusal in its page, in bytes: that of the command at fault
  * and numbers that do not apply are 0. A shorter answer is left as it is, and so are later entries.
  */
@@ -44,7 +46,7 @@ extern "C" {
 #endif
 
 /* The version of this interface: MAJOR rises when programs have to change, MINOR when something is added. */
-#define YARD_VERSION_MAJOR 1
+#define YARD_VERSION_MAJOR 2
 #define YARD_VERSION_MINOR 0
 
 /* The limits of a map. Read a file into YARD_MAX_IMAGE_BYTES + 1 bytes: one that is too long is then refused by 4. */
@@ -81,7 +83,9 @@ enum yard_refusal {
     /* of a route */
     YARD_REFUSED_ROUTE_STATION = 15,
     YARD_REFUSED_ROUTE_CHAIN = 16,
-    YARD_REFUSED_ROUTE_ROOM = 17
+    YARD_REFUSED_ROUTE_ROOM = 17,
+    /* of a page, as 8 to 14 */
+    YARD_REFUSED_LIMIT_ZERO = 18
 };
 
 /* A refusal's meaning in words; of 0 "accepted". The string is constant and is never null. */
@@ -106,6 +110,7 @@ static inline const char *yard_refusal_meaning(uint32_t refusal)
     case YARD_REFUSED_ROUTE_STATION: return "no predecessors or over 2,048, or no such station among them";
     case YARD_REFUSED_ROUTE_CHAIN: return "predecessors do not lead to a source";
     case YARD_REFUSED_ROUTE_ROOM: return "output is shorter than the route";
+    case YARD_REFUSED_LIMIT_ZERO: return "limit of a move is 0";
     default: return "not a refusal of this version";
     }
 }
@@ -117,12 +122,14 @@ static inline size_t yard_stations(const uint8_t *image, size_t image_len)
     return stations <= YARD_MAX_STATIONS ? stations : 0;
 }
 
-/* The whole check of a map: refusals 1 to 5, then every page by rising number. */
+/* The whole check of a map: refusals 1 to 5, then every page by rising number, with every move, whatever its limit. */
 uint32_t yard_check(const uint8_t *image, size_t image_len, uint32_t *answer, size_t answer_len);
 
 /*
- * The two searches from a source: yard_plain is Dijkstra's, yard_df fetches fewer pages or as many. Each table needs an
- * entry for each of the map's N stations (refusal 7), and YARD_MAX_STATIONS entries are enough for every map.
+ * The two searches from a source for a strip of a length: yard_plain is Dijkstra's, yard_df fetches fewer pages or as
+ * many. A move is used if it has no limit or its limit is not below the length; with a length of 0 every move is. Each
+ * table needs an entry for each of the map's N stations (refusal 7), and YARD_MAX_STATIONS entries are enough for every
+ * map.
  *     times    the least time to each station, in tenths of a second
  *     preds    the station before it on the way, of several with that time the lowest
  *     marks    working bytes of the search, which hold nothing for the caller
@@ -130,16 +137,17 @@ uint32_t yard_check(const uint8_t *image, size_t image_len, uint32_t *answer, si
  * Accepted: the first N entries of times, preds and marks are written (a station without a time has YARD_NO_TIME and
  * YARD_NO_PREDECESSOR; the source has time 0 and YARD_SOURCE; marks are 0), list holds answer[0] pages, and answer[1]
  * stations have a time. Later entries are kept.
- * Refused by 1 to 7: every table is untouched. Refused by 8 to 14: the first N entries are as if no station had a time,
- * and list holds the answer[0] pages fetched, the bad one last.
- * Where yard_df accepts, yard_plain does too, with the same times and predecessors, and the list of yard_df is that of
- * yard_plain with some entries left out or none.
+ * Refused by 1 to 7: every table is untouched. Refused by 8 to 14 or 18: the first N entries are as if no station had a
+ * time, and list holds the answer[0] pages fetched, the bad one last.
+ * Where yard_df accepts, yard_plain does too for the same length, with the same times and predecessors, and the list of
+ * yard_df is that of yard_plain with some entries left out or none. Of two lengths that a search accepts, no station
+ * has a lesser time for the longer one.
  */
-uint32_t yard_plain(const uint8_t *image, size_t image_len, uint16_t source,
+uint32_t yard_plain(const uint8_t *image, size_t image_len, uint16_t source, uint16_t length,
                     uint32_t *times, size_t times_len, uint16_t *preds, size_t preds_len,
                     uint8_t *marks, size_t marks_len, uint8_t *list, size_t list_len,
                     uint32_t *answer, size_t answer_len);
-uint32_t yard_df(const uint8_t *image, size_t image_len, uint16_t source,
+uint32_t yard_df(const uint8_t *image, size_t image_len, uint16_t source, uint16_t length,
                  uint32_t *times, size_t times_len, uint16_t *preds, size_t preds_len,
                  uint8_t *marks, size_t marks_len, uint8_t *list, size_t list_len,
                  uint32_t *answer, size_t answer_len);

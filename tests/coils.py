@@ -1,4 +1,4 @@
-"""What the program `coils` prints, written from document 01, "Route, whole check, program".
+"""What the program `coils` prints, written from document 01, "Route, whole check, program", and document 02, C-11.
 
     printed(file, data)    -> the whole output, for the bytes of `yard.map` (None: it can't be opened) and of the input
 """
@@ -21,7 +21,8 @@ def fields(record):
 
 def line(image, record):
     coil, length, station = fields(record)
-    answer = df(image, station, ROOM).answer
+    # "the rule that length has no bearing on the way is withdrawn"
+    answer = df(image, station, length, ROOM).answer
     if answer[0] == 'refused':
         # "at every refusal only coil and refusal number"
         return f'coil {coil} refused {answer[1]}\n'

@@ -19,8 +19,9 @@ import tty
 from pathlib import Path
 
 from coils import LONGEST, printed
+from limits import random_limits, strips_about
 from make_coils_examples import largest, plate_yard, record
-from make_search_cases import M7, damaged, page_begins, random_change, random_map
+from make_search_cases import M7, M7_LIMITED, damaged, drawn, page_begins, random_change, random_map
 
 TARGET = Path(__file__).resolve().parent.parent / 'target'
 BY_THE_KIT, WITH_STATUS = TARGET / 'bin' / 'coils', TARGET / 'coils'
@@ -70,6 +71,7 @@ def cases():
     full = largest()
     assert len(full) == LONGEST
     bad = damaged(M7, (page_begins(M7, 1), 7))
+    limited = drawn([0, 1], '0-1/1/100')
     made = [
         row('document 01', M7, both, LINE_0 + LINE_7),
         row('no map', None, both, b'coil 7 refused 1\ncoil 8 refused 1\n'),
@@ -82,6 +84,15 @@ def cases():
         row('the longest line', full, record(4294967295, 65535, 2047),
             b'coil 4294967295 length 65535 from 2047 pages 2048 reached 2048\n'),
         row('M7, page 1 bad', bad, FROM_0 + record(9, 1, 6), b'coil 7 refused 8\ncoil 9 refused 8\n'),
+        row('lengths about two limits', M7_LIMITED,
+            b''.join(record(*one) for one in [(1, 8119, 0), (2, 8120, 0), (3, 8121, 0), (4, 0, 4), (5, 65535, 4)]),
+            b'coil 1 length 8119 from 0 pages 3 reached 7\ncoil 2 length 8120 from 0 pages 2 reached 7\n'
+            b'coil 3 length 8121 from 0 pages 2 reached 6\ncoil 4 length 0 from 4 pages 2 reached 5\n'
+            b'coil 5 length 65535 from 4 pages 1 reached 3\n'),
+        row('a bad page behind a limit', damaged(limited, (page_begins(limited, 1), 7)),
+            record(1, 100, 0) + record(2, 101, 0), b'coil 1 refused 8\ncoil 2 length 101 from 0 pages 1 reached 1\n'),
+        row('a limit of 0', drawn([0, 1], '0-1/1/0'), record(1, 0, 0) + record(2, 1, 1),
+            b'coil 1 refused 18\ncoil 2 length 1 from 1 pages 1 reached 1\n'),
         row('M7 less its last byte', M7[:-1], both, b'coil 7 refused 4\ncoil 8 refused 4\n'),
         row('M7, station 3 on no page', damaged(M7, (7, 2)), FROM_0, b'coil 7 refused 5\n'),
         row('2,000 records', M7, b''.join(record(k * 1000003 % 2**32, k, k % 9) for k in range(2000))),
@@ -96,11 +107,14 @@ def cases():
 
 
 def damaged_map(rng, number):
-    """A random map with up to three bytes changed, and a record from each station and from one that it lacks."""
-    data, _ = random_map(rng)
+    """A random map, every other one with limits, with up to three bytes changed, and a record from each station and
+    from one that it lacks."""
+    limits = random_limits(rng) if number % 2 else ()
+    data, _ = random_map(rng, limits)
     changes = dict(random_change(rng, data) for _ in range(rng.randint(0, 3)))
     stations = int.from_bytes(data[:2], 'little') + 1
-    records = [record(rng.randrange(2**32), rng.randrange(2**16), station) for station in range(stations)]
+    strips = strips_about(limits) + [rng.randrange(2**16)]
+    records = [record(rng.randrange(2**32), rng.choice(strips), station) for station in range(stations)]
     return row(f'random map {number}', damaged(data, *changes.items()), b''.join(records))
 
 

@@ -1,11 +1,12 @@
-"""What documents 00 and 01 promise of the two searches, checked without the steps of a search.
+"""What documents 00 and 01 and document 02, C-11, promise of the two searches, checked without the steps of a search.
 
-    check(image, source, lengths, plain, df, rng)    stops by an AssertionError where a promise is broken
+    check(image, source, strip, lengths, plain, df, rng)    what is promised of a call
+    check_lengths(shorter, longer)                          and of two outcomes, for a shorter and a longer strip
 
-Least times come from rounds over all moves until nothing falls (Bellman and Ford), predecessors from the times
-alone, the refused page from document 01's sentence, Dijkstra's list from the order of the least times, and ours from
-the times that are known after each reference. `plain` and `df` are the searches under check; they are called again on
-images whose unlisted pages hold other bytes.
+Both stop by an AssertionError where a promise is broken. Least times come from rounds over all open moves until nothing
+falls (Bellman and Ford), predecessors from the times alone, the refused page from document 01's sentence, Dijkstra's
+list from the order of the least times, and ours from the times that are known after each reference. `plain` and `df`
+are the searches under check; they are called again on images whose unlisted pages hold other bytes.
 """
 from collections import Counter
 
@@ -34,9 +35,12 @@ def first_refusal(image, source, lengths):
 
 
 class Map:
-    """An image that 1 to 5 accept: its directory, its good pages' moves and its bad pages' faults."""
+    """An image that 1 to 5 accept: its directory, its bad pages' faults and its good pages' moves open to a length.
 
-    def __init__(self, image):
+    "Walks, entry stations and both lists are those of the moves open to that length."
+    """
+
+    def __init__(self, image, strip):
         self.n, pages = number_at(image, 0), number_at(image, 2)
         self.directory = image[4:4 + self.n]
         self.faults, self.moves = {}, []  # page -> (number, offset); (from, target, time)
@@ -46,7 +50,8 @@ class Map:
             if reading[0] == 'bad':
                 self.faults[p] = reading[1:]
             else:
-                self.moves += [(u, v, time) for u, leaving in reading[1] for v, time in leaving]
+                self.moves += [(u, v, time) for u, leaving in reading[1] for v, time, limit in leaving
+                               if limit is None or limit >= strip]
 
     def is_bad(self, s):
         return self.directory[s] in self.faults
@@ -193,13 +198,21 @@ def check_map(yard, source, plain, df):
     check_list(yard, source, df.list, plain.list)
 
 
-def check(image, source, lengths, plain, df, rng):
-    outcomes = plain(image, source, lengths), df(image, source, lengths)
+def check(image, source, strip, lengths, plain, df, rng):
+    outcomes = plain(image, source, strip, lengths), df(image, source, strip, lengths)
     refusal = first_refusal(image, source, lengths)
     if refusal:
         assert all(outcome == (('refused',) + refusal, [], [], [], []) for outcome in outcomes)
     else:
-        check_map(Map(image), source, *outcomes)
+        check_map(Map(image, strip), source, *outcomes)
+    # "Where demand 3 .. compares searches or images, all have the same strip length too"
     for search, outcome in zip((plain, df), outcomes):
-        assert search(other_image(image, set(outcome.list), rng), source, lengths) == outcome
+        assert search(other_image(image, set(outcome.list), rng), source, strip, lengths) == outcome
     return outcomes
+
+
+def check_lengths(shorter, longer):
+    """"For two lengths on one map from one source, both accepted, the longer never has a lesser time.\""""
+    if shorter.answer[0] == longer.answer[0] == 'accepted':
+        # "Where times are compared, none is above all.", and so is its number
+        assert all(time <= other for time, other in zip(shorter.times, longer.times))

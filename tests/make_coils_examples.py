@@ -9,7 +9,7 @@ The expected lines come from coils.py, and document 01's are stated here by hand
 """
 import random
 
-from coils import LONGEST, line, printed
+from coils import LONGEST, ROOM, line, printed
 from make_search_cases import M7, damaged, page_begins, spelled
 from maps import u16, u32
 from searches import df
@@ -17,9 +17,10 @@ from stored import ROOT, keep
 
 # The plate yard: a grid of one-way lanes, its stations numbered by rows and dealt out to the pages by threes, so that
 # a search enters each page again and again; and a siding of four stations on a page of their own, which leads into the
-# grid and to which nothing leads.
+# grid and to which nothing leads. Some rows and columns take strips of up to a limit in decimetres.
 ROWS, COLUMNS, SIDING = 18, 22, 4
 GRID_PAGES = 23
+ROW_LIMIT, COLUMN_LIMIT = 8440, 12000
 
 
 def record(coil, length, station):
@@ -53,14 +54,15 @@ def too_long_example():
 
 
 def lane_moves(rng):
-    """Even rows lead to the right and odd ones to the left; even columns lead up and odd ones down."""
+    """Even rows lead to the right and odd ones to the left; even columns lead up and odd ones down. Every sixth row and
+    every seventh column has its limit."""
     moves = {}
     for row in range(ROWS):
         for column in range(COLUMNS):
-            across = (row, column + (1 if row % 2 == 0 else -1))
-            along = (row + (-1 if column % 2 == 0 else 1), column)
+            across = (row, column + (1 if row % 2 == 0 else -1), ROW_LIMIT if row % 6 == 3 else None)
+            along = (row + (-1 if column % 2 == 0 else 1), column, COLUMN_LIMIT if column % 7 == 6 else None)
             moves[row * COLUMNS + column] = [
-                (r * COLUMNS + c, rng.randint(20, 400)) for r, c in (across, along)
+                (r * COLUMNS + c, rng.randint(20, 400), limit) for r, c, limit in (across, along)
                 if 0 <= r < ROWS and 0 <= c < COLUMNS]
     return moves
 
@@ -83,11 +85,14 @@ def plate_example():
     grid = ROWS * COLUMNS
     rows = [(1201, 8120, 0), (1202, 7995, 21), (1203, 12040, 197), (1204, 65535, grid - 1), (1205, 1, grid),
             (1206, 8120, 310), (0, 0, 88), (4294967295, 65535, grid + SIDING - 1), (1207, 9000, grid + SIDING),
-            (1208, 9000, 65535), (1209, 8440, 203), (1201, 640, 0)]
+            (1208, 9000, 65535), (1209, ROW_LIMIT, 203), (1210, ROW_LIMIT + 1, 203), (1201, 640, 0)]
     data = b''.join(record(*row) for row in rows)
-    counts = [df(yard, station, (2048,) * 4).answer[1:] for _, _, station in rows if station < grid]
-    # every station of the grid is reached, and a page is entered four times or more on average
-    assert all(reached == grid and count >= 4 * GRID_PAGES for count, reached in counts), counts
+    answers = {row[1:]: df(yard, row[2], row[1], ROOM).answer for row in rows if row[2] < grid}
+    for (length, _), (_, count, reached) in answers.items():
+        # a page is entered four times or more on average, and a strip that each column takes reaches the whole grid
+        assert count >= 4 * GRID_PAGES and (reached == grid) == (length <= COLUMN_LIMIT), answers
+    # a decimetre more, and there are other ways
+    assert answers[ROW_LIMIT, 203] != answers[ROW_LIMIT + 1, 203], answers
     assert line(yard, record(*rows[4])) == 'coil 1205 refused 13\n'
     assert line(yard, record(*rows[8])) == 'coil 1207 refused 6\n'
     data += data[:3]

@@ -3,11 +3,13 @@
     python3 tests/make_page_cases.py            write both files
     python3 tests/make_page_cases.py --check    only compare them with what would be written; exit 1 on a difference
 
-The expected text comes from reader.py. Each case below also states the whole check's answer by hand, from document 01,
-and each good map the content that it was built from; the generator stops where reader.py says otherwise.
+The expected text comes from reader.py. Each case below also states the whole check's answer by hand, from document 01
+and document 02, C-11, and each good map the content that it was built from; the generator stops where reader.py says
+otherwise.
 """
 import random
 
+from limits import random_limit, random_limits
 from maps import image, move, page, station, u16
 from reader import PAGE, parse, read_page, whole_check
 from stored import ROOT, keep
@@ -19,7 +21,7 @@ ANSWERS, SWEEP = 1, 2  # the kinds of case
 # Maps and pages
 
 def spelled(directory, moves, p):
-    """Page p of a map whose station s has the moves moves.get(s): (target, time) pairs."""
+    """Page p of a map whose station s has the moves moves.get(s): (target, time), or (target, time, limit) for `03`."""
     own = [s for s in range(len(directory)) if directory[s] == p]
     return page(*[station(s) + b''.join(move(*m) for m in moves.get(s, [])) for s in own])
 
@@ -29,7 +31,7 @@ def built(directory, moves, pages):
     directory = bytes(directory)
     made = image(directory, *[spelled(directory, moves, p) for p in range(pages)])
     for p, data in enumerate(parse(made)[3]):
-        content = [(s, moves.get(s, [])) for s in range(len(directory)) if directory[s] == p]
+        content = [(s, [(*m, None)[:3] for m in moves.get(s, [])]) for s in range(len(directory)) if directory[s] == p]
         assert read_page(len(directory), directory, p, data) == ('good', content)
     return made
 
@@ -185,7 +187,7 @@ def page_cases():
     """Refusals 8 to 14 in the table's order, each at its boundaries."""
     # 8, "unknown code", and its example "page `07`"
     on_page_0('8: page 07', (8, 0), b'\x07')
-    on_page_0('8: code 03 behind a station', (8, 3), station(0), b'\x03')
+    on_page_0('8: code 04 behind a station', (8, 3), station(0), b'\x04')
     on_page_0('8: code FF behind a move', (8, 8), station(0), move(1, 1), b'\xff', n=2)
 
     # 9, "command passes byte 255, or no `00` (offset 256)", and its example "86 stations on one page: offset 255"
@@ -255,10 +257,53 @@ def page_cases():
     case('14: the 00 is byte 254, byte 255 is FF', filled(3, 49, b'\x00\xff'), 'refused 14 page 0 offset 254')
 
 
+def limit_cases():
+    """Command `03` of document 02, C-11: its limit, its end, and the rules that it shares with `02`."""
+    # "u16 longest strip in decimetres"; page_test's pages are read for a strip of 65,535
+    for limit in (1, 2, 255, 256, 8119, 8120, 8121, 65534, 65535):
+        on_page_0(f'limit {limit:,}', None, station(0), move(1, 1, limit), station(1), n=2)
+    # "It refuses a limit of 0 with 18"
+    on_page_0('18: limit 0', (18, 3), station(0), move(1, 1, 0), station(1), n=2)
+    on_page_0('18: limit 0 behind a move without a limit', (18, 8),
+              station(0), move(1, 1), move(2, 1, 0), station(1), station(2), n=3)
+    on_page_0('18: limit 0 behind a move with a limit', (18, 10),
+              station(0), move(1, 1, 7), move(2, 1, 0), station(1), station(2), n=3)
+    on_page_0('18: limit 0 of the last station', (18, 6), station(0), station(1), move(0, 65535, 0), n=2)
+
+    # "(7 bytes)"
+    case('the 00 is byte 255, behind 36 moves with a limit',
+         built([0] + [1] * 36, {0: [(target, 1, 3) for target in range(1, 37)]}, 2), 'good')
+    case('the 00 is byte 255, behind a move with a limit', filled(1, 49, move(50, 1, 1)), 'good')
+    case('9: no 00, a move with a limit ends at byte 255', filled(3, 48, move(51, 1, 1)), 'refused 9 page 0 offset 256')
+    for stations, moves in ((5, 47), (2, 49), (4, 48), (1, 50), (3, 49), (5, 48)):
+        at = 3 * stations + 5 * moves
+        case(f'9: a move with a limit at {at} is cut off at 255',
+             filled(stations, moves, move(stations + moves, 257, 257)[:PAGE - at]), f'refused 9 page 0 offset {at}')
+    on_page_0('8: code 04 behind a move with a limit', (8, 10), station(0), move(1, 1, 1), b'\x04', n=2)
+    on_page_0('10: a station missing behind a move with a limit', (10, 10), station(0), move(1, 1, 1), n=2)
+    on_page_0('14: 03 behind the 00', (14, 13), station(0), move(1, 1, 1), station(1), b'\x00\x03', n=2)
+
+    # "under all rules of `02`"
+    on_page_0('11: a move with a limit before its station', (11, 0), move(1, 4, 9), station(0), station(1), n=2)
+    on_page_0('12: target N, with a limit', (12, 3), station(0), move(2, 1, 9), station(1), n=2)
+    on_page_0('12: own station, with a limit', (12, 6), station(0), station(1), move(1, 1, 9), n=2)
+    on_page_0('12: the same target by 02 and 03', (12, 8), station(0), move(1, 1), move(1, 2, 9), station(1), n=2)
+    on_page_0('12: the same target by 03 and 02', (12, 10), station(0), move(1, 1, 9), move(1, 2), station(1), n=2)
+    on_page_0('12: the same target by 03 twice, limits 8 and 9', (12, 10),
+              station(0), move(1, 1, 8), move(1, 1, 9), station(1), n=2)
+    on_page_0('12: targets fall from 02 to 03', (12, 8),
+              station(0), move(2, 1), move(1, 1, 9), station(1), station(2), n=3)
+    on_page_0('12: targets fall from 03 to 02', (12, 10),
+              station(0), move(2, 1, 9), move(1, 1), station(1), station(2), n=3)
+    on_page_0('targets rise through 02 and 03 alike', None, station(0), move(1, 1, 9), move(2, 1), move(3, 1, 1),
+              station(1), move(0, 1), move(2, 1, 65535), move(3, 1), station(2), station(3), n=4)
+    on_page_0('13: time 0, with a limit', (13, 3), station(0), move(1, 0, 9), station(1), n=2)
+
+
 def order_cases():
     """Two conditions at once."""
     # "At one command: 8, then 9"
-    case('8 before 9: an unknown code in the last byte', filled(5, 48, b'\x03'), 'refused 8 page 0 offset 255')
+    case('8 before 9: an unknown code in the last byte', filled(5, 48, b'\x04'), 'refused 8 page 0 offset 255')
     case('9 before 10: a station cut off that is not the next one',
          filled(3, 49, b'\x01\x09'), 'refused 9 page 0 offset 254')
     case('9 before 12: a move cut off, to its own station',
@@ -272,12 +317,22 @@ def order_cases():
     on_page_0('12 before 13: target not below N, time 0', (12, 3), station(0), move(2, 0), station(1), n=2)
     on_page_0('12 before 13: own station, time 0', (12, 3), station(0), move(0, 0), station(1), n=2)
     on_page_0('12 before 13: not rising, time 0', (12, 8), station(0), move(1, 1), move(1, 0), station(1), n=2)
+    # the same for `03`, and 18 "tried after 13"
+    case('9 before 12, 13 and 18: a move with a limit cut off, to its own station, time 0 and limit 0 so far',
+         filled(5, 47, move(4, 0, 0)[:6]), 'refused 9 page 0 offset 250')
+    on_page_0('11 before 12, 13 and 18', (11, 0), move(9, 0, 0), station(0))
+    on_page_0('11 before 18: a move before a station, limit 0', (11, 0), move(1, 1, 0), station(0), n=2)
+    on_page_0('12 before 13 and 18: not rising, time 0, limit 0', (12, 8),
+              station(0), move(1, 1), move(1, 0, 0), station(1), n=2)
+    on_page_0('12 before 18: own station, limit 0', (12, 3), station(0), move(0, 1, 0), station(1), n=2)
+    on_page_0('13 before 18: time 0, limit 0', (13, 3), station(0), move(1, 0, 0), station(1), n=2)
     # "for `00`: 10 if a station is still missing, then 14"
     on_page_0('10 before 14: a station missing and rubbish behind the 00', (10, 3), station(0), b'\x00', b'\x05', n=2)
     on_page_0('10 before 14: the missing station behind the 00', (10, 3), station(0), b'\x00', station(1), n=2)
     # "reading stops at the first command at fault"
     on_page_0('the first command at fault: 13, then 8', (13, 3), station(0), move(1, 0), b'\x07', n=2)
     on_page_0('the first command at fault: 8, then 10', (8, 3), station(0), b'\x07', station(0), n=2)
+    on_page_0('the first command at fault: 18, then 13', (18, 3), station(0), move(1, 1, 0), move(2, 0), n=3)
 
 
 def map_cases():
@@ -306,6 +361,7 @@ def map_cases():
             ('it names station 0', page(station(0)), 'refused 10 page 1 offset 0'),
             ('it names station N', page(station(2)), 'refused 10 page 1 offset 0'),
             ('it has a move', page(move(1, 1)), 'refused 11 page 1 offset 0'),
+            ('it has a move with a limit', page(move(1, 1, 1)), 'refused 11 page 1 offset 0'),
             ('it begins 07', page(b'\x07'), 'refused 8 page 1 offset 0')]:
         case(f'a page with no station, and {label}', image([0, 2], empty[0], data, empty[2]), fault)
 
@@ -323,15 +379,16 @@ def map_cases():
 
 
 def read_end(data, p):
-    """The offset of the `00` on a good page: 3 for each station and 5 for each move."""
+    """The offset of the `00` on a good page: 3 for each station and 5 or 7 for each move."""
     _, n, directory, pages = parse(data)
-    return sum(3 + 5 * len(moves) for _, moves in read_page(n, directory, p, pages[p])[1])
+    return sum(3 + sum(len(move(*m)) for m in moves) for _, moves in read_page(n, directory, p, pages[p])[1])
 
 
-def sweep_case():
-    """Every byte of a small good map of two pages takes all 256 values.
+def sweep_cases():
+    """Every byte of two small good maps takes all 256 values.
 
-    Even stations are on page 0, odd ones on page 1, whose commands reach up to a few bytes before its end.
+    In the first even stations are on page 0, odd ones on page 1, whose commands reach up to a few bytes before its end,
+    as those of the only page of the second do, two thirds of whose moves have a limit.
     """
     n = 11
     directory = [s % 2 for s in range(n)]
@@ -342,16 +399,25 @@ def sweep_case():
     assert read_end(data, 0) == 43 and read_end(data, 1) == 250
     case('every byte of a map of two pages at all 256 values', data, 'good', kind=SWEEP)
 
+    limits = [1, 0x0100, 0x0203, 8120, 3, 65535]
+    moves = {s: [(t, 0x0101 * s + t + 1) if (s + t) % 3 == 0 else (t, 256 * t + s + 1, limits[(s + 2 * t) % 6])
+                 for t in range(7) if t != s] for s in range(6)}
+    data = built([0] * 7, moves, 1)
+    assert read_end(data, 0) == 249
+    case('every byte of a map with both kinds of move at all 256 values', data, 'good', kind=SWEEP)
 
-def random_map(rng):
-    """A good map of a few stations on one to three pages."""
-    n, pages = rng.randint(1, 12), rng.randint(1, 3)
+
+def random_map(rng, limits=()):
+    """A good map of a few stations on one to three pages. Its moves have the limits by chance, if any are given; a page
+    holds 10 stations with three such moves each."""
+    n, pages = rng.randint(1, 10 if limits else 12), rng.randint(1, 3)
     directory = [rng.randrange(pages) for _ in range(n)]
     moves = {}
     for s in range(n):
         targets = [t for t in range(n) if t != s]
         few = rng.sample(targets, rng.randint(0, min(3, len(targets))))
-        moves[s] = [(t, rng.choice([1, 255, 256, 65535, rng.randint(1, 65535)])) for t in sorted(few)]
+        moves[s] = [(t, rng.choice([1, 255, 256, 65535, rng.randint(1, 65535)]), random_limit(rng, limits))
+                    for t in sorted(few)]
     return built(directory, moves, pages)
 
 
@@ -364,17 +430,23 @@ def random_change(rng, data):
     return at, value
 
 
+def random_case(rng, number, data, label):
+    """A small map, good if its number is a multiple of 3, otherwise damaged at one to three bytes."""
+    if number % 3:
+        changes = [random_change(rng, data) for _ in range(rng.randint(1, 3))]
+        data = damaged(data, *changes)
+        label += ', ' + ', '.join(f'byte {at} {value:02X}' for at, value in changes)
+    case(label, data, check_words(data))
+
+
 def random_cases():
-    """Some 200 small maps, each third one good, the others damaged at one to three bytes."""
+    """200 small maps without limits and 100 with limits."""
     rng = random.Random(8120)
     for number in range(1, 201):
-        data = random_map(rng)
-        label = f'random map {number}'
-        if number % 3:
-            changes = [random_change(rng, data) for _ in range(rng.randint(1, 3))]
-            data = damaged(data, *changes)
-            label += ', ' + ', '.join(f'byte {at} {value:02X}' for at, value in changes)
-        case(label, data, check_words(data))
+        random_case(rng, number, random_map(rng), f'random map {number}')
+    rng = random.Random(8121)
+    for number in range(1, 101):
+        random_case(rng, number, random_map(rng, random_limits(rng)), f'random map {number} with limits')
 
 
 def stream():
@@ -393,9 +465,10 @@ def text():
 def main():
     heading_cases()
     page_cases()
+    limit_cases()
     order_cases()
     map_cases()
-    sweep_case()
+    sweep_cases()
     random_cases()
     keep(f'{len(CASES):,} maps', [(FOLDER / 'stdin', stream()), (FOLDER / 'stdout', text())])
 

@@ -3,19 +3,25 @@
     python3 tests/make_search_cases.py            write both files
     python3 tests/make_search_cases.py --check    only compare them with what would be written; exit 1 on a difference
 
-The expected text comes from searches.py. demands.py holds each outcome against what the documents promise, and where
-document 01 states an answer, a list, times or predecessors, the case below states them by hand; the generator stops
-where one of these says otherwise.
+The expected text comes from searches.py. demands.py holds each outcome against what the documents promise, and any two
+for two lengths of the strip on one map from one source; where document 01 or document 02, C-11, states an answer, a
+list, times or predecessors, the case below states them by hand. The generator stops where one of these says otherwise.
 """
 import random
+from collections import namedtuple
+from itertools import combinations
 
-from demands import check
+from demands import check, check_lengths
+from limits import LONGEST_STRIP, random_limit, random_limits, strips_about
 from maps import image, move, page, station, u16, u32
 from reader import PAGE
-from searches import df, plain
+from searches import NO_TIME, df, plain
 from stored import ROOT, keep
 
 FOLDER = ROOT / 'crates' / 'search_test'
+
+# The length of the strip in calls that name no other: that of document 01's example.
+STRIP = 8120
 
 # What stands in each table before a call: times, predecessors, marks, page list.
 BEFORE = (2863311530, 43690, 170, 187)
@@ -27,7 +33,8 @@ PRIME = 4294967291
 # Maps and pages
 
 def spelled(directory, moves, pages):
-    """The image of a map whose station s has the moves moves.get(s): (target, time) pairs, in any order."""
+    """The image of a map whose station s has the moves moves.get(s), in any order: (target, time), or (target, time,
+    limit), which is `03` if the limit is not None."""
     made = []
     for p in range(pages):
         own = [s for s in range(len(directory)) if directory[s] == p]
@@ -36,12 +43,12 @@ def spelled(directory, moves, pages):
 
 
 def drawn(directory, text, pages=None):
-    """The image of a map written as document 01 writes one: `0-1/4, 0-4/2`."""
+    """The image of a map written as document 01 writes one, `0-1/4, 0-4/2`, and a limit behind the time: `0-4/2/9`."""
     moves = {}
     for one in text.replace(',', ' ').split():
-        way, time = one.split('/')
+        way, *numbers = one.split('/')
         begin, target = map(int, way.split('-'))
-        moves.setdefault(begin, []).append((target, int(time)))
+        moves.setdefault(begin, []).append((target, *map(int, numbers)))
     return spelled(directory, moves, max(directory) + 1 if pages is None else pages)
 
 
@@ -100,10 +107,10 @@ def after(outcome, lengths):
         yield list(written) + [before] * (length - len(written))
 
 
-def call_lines(source, lengths, changes, outcomes):
+def call_lines(call, lengths, outcomes):
     """The lines that the program prints for a call."""
-    yield f' from {source}, tables ' + ' '.join(map(str, lengths))
-    for at, value in changes:
+    yield f' from {call.source}, strip {call.strip}, tables ' + ' '.join(map(str, lengths))
+    for at, value in call.changes:
         yield f'  byte {at} becomes {value}'
     for name, outcome in zip(('plain', 'df'), outcomes):
         yield f'  {name}: {answer_words(outcome.answer)}'
@@ -112,6 +119,18 @@ def call_lines(source, lengths, changes, outcomes):
 
 
 # The cases
+
+# A call of both searches that was made.
+Made = namedtuple('Made', 'strip source image outcomes')
+
+
+def compare_lengths(calls):
+    """Compares any two of the calls that have one image and one source, but two lengths."""
+    for one, other in combinations(sorted(calls, key=lambda call: call.strip), 2):
+        if one.strip < other.strip and (one.source, one.image) == (other.source, other.image):
+            for shorter, longer in zip(one.outcomes, other.outcomes):
+                check_lengths(shorter, longer)
+
 
 class Cases:
     """The maps with their calls: the bytes that the program reads, and the lines that it must print."""
@@ -124,44 +143,49 @@ class Cases:
         text = label.encode('ascii')
         self.stream += [bytes([len(text)]), u16(len(calls)), u32(len(data)), text, data]
         self.lines.append(label)
+        made = []
         for one in calls:
             data = damaged(data, *one.changes)
-            self.add_call(label, data, one)
+            made.append(Made(one.strip, one.source, data, self.add_call(label, data, one)))
+        compare_lengths(made)
 
     def add_call(self, label, data, one):
         lengths = one.lengths
         if lengths is None:
             lengths = (int.from_bytes(data[:2], 'little'),) * 4
-        outcomes = check(data, one.source, lengths, plain, df, self.rng)
+        outcomes = check(data, one.source, one.strip, lengths, plain, df, self.rng)
         one.compare(label, outcomes)
-        self.stream += [u16(one.source), *map(u16, lengths), bytes([len(one.changes)])]
+        self.stream += [u16(one.source), u16(one.strip), *map(u16, lengths), bytes([len(one.changes)])]
         self.stream += [u32(at) + bytes([value]) for at, value in one.changes]
-        self.lines += call_lines(one.source, lengths, one.changes, outcomes)
+        self.lines += call_lines(one, lengths, outcomes)
         self.searches += len(outcomes)
+        return outcomes
 
 
 class Call:
     """A call of both searches.
 
-    `lengths` are those of the lent tables, N each if not given. `changes` are made to the image first and stay.
-    `wanted` is stated by hand: answer (of both searches, or how it begins), times, predecessors, list, plain_list.
+    `lengths` are those of the lent tables, N each if not given. `changes` are made to the image first and stay. `strip`
+    is the strip's length. `wanted` is stated by hand: answer (of both searches, or how it begins), times, predecessors,
+    list, plain_list.
     """
 
-    def __init__(self, source, lengths=None, changes=(), **wanted):
-        self.source, self.lengths, self.changes, self.wanted = source, lengths, changes, wanted
+    def __init__(self, source, lengths=None, changes=(), strip=STRIP, **wanted):
+        self.source, self.lengths, self.changes, self.strip, self.wanted = source, lengths, changes, strip, wanted
 
     def compare(self, label, outcomes):
         of_plain, of_df = outcomes
+        asked = self.source, self.strip
         found = {'times': of_df.times, 'predecessors': of_df.predecessors, 'list': of_df.list,
                  'plain_list': of_plain.list}
         for name, value in self.wanted.items():
             if name == 'answer':
                 for outcome in outcomes:
                     words = answer_words(outcome.answer)
-                    assert words == value or words.startswith(value + ','), (label, self.source, words, value)
+                    assert words == value or words.startswith(value + ','), (label, *asked, words, value)
             else:
                 numbers = [int(word) for word in value.split()]
-                assert found[name] == numbers, (label, self.source, name, found[name], numbers)
+                assert found[name] == numbers, (label, *asked, name, found[name], numbers)
 
 
 def from_all(n, lengths=None):
@@ -174,6 +198,9 @@ S = bytes.fromhex('01 00 01 00 00  01 00 00 00') + bytes(252)
 # "M7: stations 0 to 3 on page 0, 4 to 6 on page 1"
 M7 = drawn([0, 0, 0, 0, 1, 1, 1], '0-1/4, 0-4/2, 1-2/3, 2-3/3, 3-5/3, 4-2/1, 4-5/6, 5-6/1')
 M7_PAGES = [page_begins(M7, 0), page_begins(M7, 1)]
+
+# M7, where 0-4 takes strips of up to 8120 and 4-2 of up to 8119
+M7_LIMITED = drawn([0, 0, 0, 0, 1, 1, 1], '0-1/4, 0-4/2/8120, 1-2/3, 2-3/3, 3-5/3, 4-2/1/8119, 4-5/6, 5-6/1')
 
 # "N 4, one page, from 0: 0-1/6, 0-2/5, 1-3/4, 2-3/5"
 C6 = drawn([0] * 4, '0-1/6, 0-2/5, 1-3/4, 2-3/5')
@@ -255,28 +282,40 @@ def refusal_cases(cases):
 
 
 def faults():
-    """Bad pages for page 1 of a map: label, number and offset, the page's stations, the page."""
+    """Bad pages for page 1 of a map: label, number and offset, the page's stations, the page.
+
+    Limits are 0 or closed to the strip: a move that is closed is judged all the same.
+    """
     many = [1] + list(range(3, 88))
     full = page(station(1), b''.join(move(target, 1) for target in range(2, 52)), station(52))
+    last_byte = page(station(1), b''.join(move(target, 1) for target in range(2, 50)), *map(station, range(50, 54)),
+                     b'\x03')
     return [
         ('8: page 07', (8, 0), [1], page(b'\x07')),
-        ('8: code 03 behind a station', (8, 3), [1], page(station(1), b'\x03')),
+        ('8: code 04 behind a station', (8, 3), [1], page(station(1), b'\x04')),
         ('9: 86 stations on one page', (9, 255), many, b''.join(map(station, many))[:PAGE]),
         ('9: no 00', (9, 256), [1, 52], full),
+        ('9: code 03 in the last byte', (9, 255), [1, *range(50, 54)], last_byte),
         ('10: page all zero', (10, 0), [1], page()),
         ('10: not the next station', (10, 0), [1], page(station(2))),
         ('10: one missing at 00', (10, 3), [1, 3], page(station(1))),
         ('11: page 02 00 00 01 00', (11, 0), [1], page(bytes.fromhex('02 00 00 01 00'))),
+        ('11: a move with a limit', (11, 0), [1], page(move(2, 1, 1))),
         ('12: target N', (12, 3), [1], page(station(1), move(3, 1))),
+        ('12: target N, with a limit', (12, 3), [1], page(station(1), move(3, 1, 1))),
         ('12: own station', (12, 3), [1], page(station(1), move(1, 1))),
         ('12: not rising', (12, 8), [1], page(station(1), move(2, 1), move(2, 1))),
+        ('12: the same target by 02 and 03', (12, 8), [1], page(station(1), move(2, 1), move(2, 1, 1))),
+        ('12: the same target by 03 and 02', (12, 10), [1], page(station(1), move(2, 1, 1), move(2, 1))),
         ('13: time 0', (13, 3), [1], page(station(1), move(2, 0))),
+        ('13: time 0, with a limit', (13, 3), [1], page(station(1), move(2, 0, 1))),
         ('14: byte not 00 after the end', (14, 3), [1], page(station(1), b'\x00\x05')),
-        ('14: the last byte of the page', (14, 3), [1], page(station(1), bytes(252), b'\x01'))]
+        ('14: the last byte of the page', (14, 3), [1], page(station(1), bytes(252), b'\x01')),
+        ('18: limit 0', (18, 3), [1], page(station(1), move(2, 1, 0)))]
 
 
 def page_refusal_cases(cases):
-    """Rows 8 to 14 on a page that is reached, and on one that is not.
+    """Rows 8 to 14, and 18, on a page that is reached, and on one that is not.
 
     Station 0 is on page 0, station 1 on page 1 with the fault, station 2 on page 2. The moves are 0-1/1 and 2-0/1, or
     0-2/1 and 2-0/1 where the fault is not to be reached.
@@ -371,6 +410,54 @@ def page_again_cases(cases):
     cases.add('no moves at all', drawn([0, 1, 2, 0, 1, 2], ''), from_all(6))
 
 
+def limit_cases(cases):
+    """Moves that are open to some lengths and closed to others (document 02, C-11)."""
+    # "use a move only if its limit isn't below it; `02` has no limit": the moves to stations below `first` are closed
+    rows = [(0, 1), (1, 1), (2, 2), (8118, 2), (8119, 2), (8120, 3), (8121, 4), (8122, 5), (65534, 5), (65535, 5)]
+    cases.add('limits 1, 8119, 8120, 8121 and 65,535, and none', drawn(
+        [0, 1, 1, 1, 0, 0, 0], '0-1/1/1 0-2/2/8119 0-3/3/8120 0-4/4/8121 0-5/5/65535 0-6/6'), [
+            Call(0, strip=strip, times=' '.join(map(str, [0] + [NO_TIME] * (first - 1) + list(range(first, 7)))))
+            for strip, first in rows])
+    cases.add('18: a limit of 0, at every length', image([0, 0], page(station(0), move(1, 1, 0), station(1))), [
+        Call(0, strip=strip, answer='refused 18, page 0, offset 3, count 1') for strip in (0, 1, 8120, LONGEST_STRIP)])
+
+    cases.add('M7, 0-4 for strips of up to 8120, 4-2 of up to 8119', M7_LIMITED, [
+        Call(0, strip=8119, times='0 4 3 6 2 8 9', predecessors='65534 0 4 2 0 4 5', list='0 1 0',
+             plain_list='0 1 0 0 0 1 1'),
+        Call(0, strip=8120, times='0 4 7 10 2 8 9', predecessors='65534 0 1 2 0 4 5', list='0 1',
+             plain_list='0 1 0 0 1 1 0'),
+        Call(0, strip=8121, times=f'0 4 7 10 {NO_TIME} 13 14', predecessors='65534 0 1 2 65535 3 5', list='0 1',
+             plain_list='0 0 0 0 1 1'),
+        Call(4, strip=8119, times=f'{NO_TIME} {NO_TIME} 1 4 0 6 7', list='1 0'),
+        Call(4, strip=8120, times=f'{NO_TIME} {NO_TIME} {NO_TIME} {NO_TIME} 0 6 7', list='1')])
+    cases.add('C6, 1-3 for strips of up to 500: the predecessor at equal time', drawn(
+        [0] * 4, '0-1/6, 0-2/5, 1-3/4/500, 2-3/5'), [
+            Call(0, strip=500, times='0 6 5 10', predecessors='65534 0 0 1'),
+            Call(0, strip=501, times='0 6 5 10', predecessors='65534 0 0 2')])
+    cases.add('a station lowered by fewer pages, the longer the strip', drawn(
+        [0, 1, 2, 3, 4, 0, 0], '0-1/1 0-2/2 0-3/3 0-4/4 0-5/50 1-5/40/40 2-5/30/30 3-5/20/20 4-5/10/10 5-6/1'), [
+            Call(0, strip=strip, times=f'0 1 2 3 4 {time} {time + 1}', list=made) for strip, time, made in [
+                (10, 14, '0 1 2 3 4 0'), (11, 23, '0 1 2 3 4 0'), (30, 32, '0 1 2 3 4 0'), (40, 41, '0 1 2 3 4 0'),
+                (41, 50, '0 1 2 3 4')]])
+    # for a strip of 6 the source is the only entry station
+    cases.add('a chain that changes page at each move, or stays on its page', drawn(
+        [0, 1, 0, 1, 0], '0-1/1/5 1-2/1/5 2-3/1/5 3-4/1/5 0-2/9 1-3/9 2-4/9'), [
+            Call(0, strip=5, times='0 1 2 3 4', list='0 1 0 1 0', plain_list='0 1 0 1 0'),
+            Call(0, strip=6, times=f'0 {NO_TIME} 9 {NO_TIME} 18', list='0', plain_list='0 0 0')])
+    cases.add('all moves between 8 stations, each of time 1 and a limit by how far it leads', spelled(
+        [0, 0, 0, 0, 1, 1, 1, 1], {s: [(t, 1, 100 * abs(s - t)) for t in range(8) if t != s] for s in range(8)}, 2), [
+            Call(s, (8, 9, 10, 11), strip=strip) for s in (0, 3) for strip in (0, 101, 201, 301, 400, 401, 700, 701)])
+    behind = drawn([0, 1, 2], '0-1/1/100 0-2/2/200')
+    cases.add('two bad pages behind limits 100 and 200: which is refused, or none', behind, [
+        Call(0, strip=100, changes=[(page_begins(behind, p), 7) for p in (1, 2)],
+             answer='refused 8, page 1, offset 0, count 2'),
+        Call(0, strip=0, answer='refused 8, page 1, offset 0, count 2'),
+        Call(0, strip=101, answer='refused 8, page 2, offset 0, count 2'),
+        Call(0, strip=200, answer='refused 8, page 2, offset 0, count 2'),
+        Call(0, strip=201, answer='accepted, count 1, reached 1'),
+        Call(0, strip=LONGEST_STRIP, answer='accepted, count 1, reached 1')])
+
+
 def large_cases(cases):
     """Maps of 2,048 stations, on 240 pages as a rule."""
     n = 2048
@@ -392,8 +479,12 @@ def large_cases(cases):
         calls = [Call(0, roomy), Call(2047)]
         if label == 'small times':
             calls += [Call(1234, roomy, changes=[(page_begins(data, 239) + 255, 1)]),
-                      Call(1234, changes=[(page_begins(data, 239) + 255, 0), (page_begins(data, 17), 3)])]
+                      Call(1234, changes=[(page_begins(data, 239) + 255, 0), (page_begins(data, 17), 4)])]
         cases.add('a full map: N 2,048 on 240 pages, ' + label, data, calls)
+    moves = {u: [(v, (u * 31 + v * 977) % 9 + 1, (u * 977 + v * 31) % 65535 + 1 if (u + v) % 4 else None)
+                 for v in targets] for u, targets in dealt_moves(turn, random.Random(2049), 7).items()}
+    cases.add('a full map with limits: N 2,048 on 240 pages', spelled(turn, moves, 240), [
+        Call(0, roomy, strip=strip) for strip in (0, 1, 8120, 30000, LONGEST_STRIP)])
     cases.add('a chain page by page: N 2,048 on 67 pages', spelled(
         [s // 31 for s in range(n)], {s: [(s + 1, 1)] for s in range(n - 1)}, 67), [
             Call(0, roomy, answer='accepted', list=' '.join(map(str, range(67)))), Call(1000)])
@@ -401,13 +492,13 @@ def large_cases(cases):
         [s // 31 for s in range(n)], {s: [(s - 1, 255)] for s in range(1, n)}, 67), [Call(2047), Call(31, roomy)])
 
 
-def dealt_moves(directory, rng):
-    """Targets for the stations of a map, five each as far as the pages hold them."""
+def dealt_moves(directory, rng, size=5):
+    """Targets for the stations of a map, five each as far as the pages hold moves of so many bytes."""
     room = {p: PAGE - 1 - 3 * directory.count(p) for p in set(directory)}
     moves = {}
     for s, p in enumerate(directory):
-        count = min(5, room[p] // 5)
-        room[p] -= 5 * count
+        count = min(5, room[p] // size)
+        room[p] -= size * count
         moves[s] = sorted(rng.sample([t for t in range(len(directory)) if t != s], count))
     return moves
 
@@ -432,21 +523,24 @@ def random_times(rng, n):
     return lambda u, v: max(1, height[v] - height[u]) + rng.choice(more)
 
 
-def random_map(rng):
-    """A good map of 1 to 40 stations on 1 to 8 pages, and a station that reaches many others."""
+def random_map(rng, limits=()):
+    """A good map of 1 to 40 stations on 1 to 8 pages, and a station that reaches many others by all moves. The moves
+    have the limits by chance, if any are given."""
     n, pages = rng.randint(1, rng.choice([4, 10, 20, 40])), rng.choice([1, 2, 2, 2, 3, 3, 4, 4, 5, 6, 8])
     directory = random_directory(rng, n, pages)
     time = random_times(rng, n)
-    room = {p: (PAGE - 1 - 3 * directory.count(p)) // 5 for p in range(pages)}
+    room = {p: PAGE - 1 - 3 * directory.count(p) for p in range(pages)}
     order = rng.sample(range(n), n)
     wanted = [(order[rng.randrange(k)], order[k]) for k in range(1, n) if rng.random() < 0.95]
     wanted += [(rng.randrange(n), rng.randrange(n)) for _ in range(rng.choice([0, n, 2 * n, 4 * n]))]
     moves = {}
     for u, v in wanted:
-        if u != v and v not in moves.setdefault(u, {}) and room[directory[u]] > 0:
-            room[directory[u]] -= 1
-            moves[u][v] = time(u, v)
-    return spelled(directory, {u: list(leaving.items()) for u, leaving in moves.items()}, pages), order[0]
+        limit = random_limit(rng, limits)
+        size = 5 if limit is None else 7
+        if u != v and v not in moves.setdefault(u, {}) and room[directory[u]] >= size:
+            room[directory[u]] -= size
+            moves[u][v] = v, time(u, v), limit
+    return spelled(directory, {u: leaving.values() for u, leaving in moves.items()}, pages), order[0]
 
 
 def random_change(rng, data):
@@ -472,10 +566,26 @@ def random_cases(cases):
             Call(first, roomy, changes=list(changes.items()))])
 
 
+def random_limit_cases(cases):
+    """60 good maps with limits, each for lengths of every kind, and then damaged at one to three bytes."""
+    rng = random.Random(8121)
+    for number in range(1, 61):
+        limits = random_limits(rng)
+        data, first = random_map(rng, limits)
+        n = int.from_bytes(data[:2], 'little')
+        roomy = tuple(n + rng.randint(0, 3) for _ in range(4))
+        strips = rng.sample(strips_about(limits), 4)
+        changes = dict(random_change(rng, data) for _ in range(rng.randint(1, 3)))
+        cases.add(f'random map {number} with limits', data, [
+            *[Call(first, strip=strip, answer='accepted') for strip in strips],
+            Call(rng.randrange(n), roomy, strip=rng.choice(strips), answer='accepted'),
+            Call(first, roomy, changes=list(changes.items()), strip=strips[0]), Call(first, roomy, strip=strips[1])])
+
+
 def main():
     cases = Cases()
-    for part in (course_cases, refusal_cases, page_refusal_cases, tie_cases, page_again_cases, large_cases,
-                 random_cases):
+    for part in (course_cases, refusal_cases, page_refusal_cases, tie_cases, page_again_cases, limit_cases, large_cases,
+                 random_cases, random_limit_cases):
         part(cases)
     stream = b''.join(cases.stream)
     text = ''.join(line + '\n' for line in cases.lines).encode('ascii')

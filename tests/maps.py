@@ -14,8 +14,11 @@ def station(number):
     return b'\x01' + u16(number)
 
 
-def move(target, time):
-    return b'\x02' + u16(target) + u16(time)
+def move(target, time, limit=None):
+    """A move without a limit, `02`, or with one, `03`."""
+    if limit is None:
+        return b'\x02' + u16(target) + u16(time)
+    return b'\x03' + u16(target) + u16(time) + u16(limit)
 
 
 def page(*parts):

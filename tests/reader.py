@@ -1,17 +1,19 @@
-"""An independent reader of map images, written from document 01 ("Map image" and "What is turned down").
+"""An independent reader of map images, written from document 01 ("Map image" and "What is turned down") and from
+document 02, C-11.
 
     parse(image)                        -> ('good', n, directory, pages) or a refusal 1 to 5
     whole_check(image)                  -> ('good',) or a refusal
-    read_page(n, directory, p, page)    -> ('good', [(station, [(target, time), ..]), ..]) or ('bad', number, offset)
+    read_page(n, directory, p, page)    -> ('good', [(station, moves), ..]) or ('bad', number, offset)
 
-A refusal is ('refused', number) for 1 to 4, ('refused', 5, station), and ('refused', number, page, offset) for 8 to 14.
+A move is (target, time, limit), its limit None for `02`. A refusal is ('refused', number) for 1 to 4, ('refused', 5,
+station), and ('refused', number, page, offset) for 8 to 14 and 18.
 """
 
 PAGE = 256
 
-# "The lengths 1, 3, 5 stand in a constant table."
-END, STATION, MOVE = 0x00, 0x01, 0x02
-LENGTHS = {END: 1, STATION: 3, MOVE: 5}
+# "The lengths 1, 3, 5 stand in a constant table.", and "Command `03` .. (7 bytes)"
+END, STATION, MOVE, LIMITED_MOVE = 0x00, 0x01, 0x02, 0x03
+LENGTHS = {END: 1, STATION: 3, MOVE: 5, LIMITED_MOVE: 7}
 
 
 def u16(data, at):
@@ -55,16 +57,19 @@ def read_page(n, directory, p, page):
             if missing[:1] != [station]:
                 return ('bad', 10, at)  # not the next station
             content.append((station, []))
-        elif code == MOVE:
+        elif code in (MOVE, LIMITED_MOVE):  # "Command `03`, under all rules of `02`"
             if not content:
                 return ('bad', 11, at)  # move before a station
             target, time = u16(page, at + 1), u16(page, at + 3)
+            limit = u16(page, at + 5) if code == LIMITED_MOVE else None  # "`02` has no limit"
             station, moves = content[-1]  # "It belongs to the latest station."
             if target >= n or target == station or (moves and target <= moves[-1][0]):
                 return ('bad', 12, at)  # target not below N, own station, or not rising
             if time == 0:
                 return ('bad', 13, at)  # time 0
-            moves.append((target, time))
+            if limit == 0:
+                return ('bad', 18, at)  # "It refuses a limit of 0 with 18, tried after 13."
+            moves.append((target, time, limit))
         else:
             if missing:
                 return ('bad', 10, at)  # one missing at `00`

@@ -1,10 +1,10 @@
-"""The plain search (Dijkstra's) and the DF search, written from document 01, "The two searches".
+"""The plain search (Dijkstra's) and the DF search, written from document 01, "The two searches", and document 02, C-11.
 
-    plain(image, source, lengths)    -> Outcome
-    df(image, source, lengths)       -> Outcome
+    plain(image, source, strip, lengths)    -> Outcome
+    df(image, source, strip, lengths)       -> Outcome
 
-`lengths` are those of the four lent tables: times, predecessors, marks, page list. demands.py holds the outcomes
-against what the documents promise, by other means.
+`strip` is the strip's length in decimetres; `lengths` are those of the four lent tables: times, predecessors, marks,
+page list. demands.py holds the outcomes against what the documents promise, by other means.
 """
 from collections import namedtuple
 
@@ -31,8 +31,8 @@ def untouched(*answer):
 class Search:
     """The state of a search, and what both searches do alike."""
 
-    def __init__(self, n, directory, pages, source):
-        self.n, self.directory, self.pages = n, directory, pages
+    def __init__(self, n, directory, pages, source, strip):
+        self.n, self.directory, self.pages, self.strip = n, directory, pages, strip
         # "At the start the source has time 0 and nothing is settled or fresh."
         self.time = {source: 0}
         self.predecessor = {source: SOURCE}
@@ -68,8 +68,10 @@ class Search:
             self.predecessor[v] = u
 
     def relax_moves(self, u, content):
-        for v, time in content[u]:
-            self.relax(u, v, time)
+        for v, time, limit in content[u]:
+            # "use a move only if its limit isn't below it; `02` has no limit"
+            if limit is None or not limit < self.strip:
+                self.relax(u, v, time)
 
     def settle_next(self):
         """"Choose the unsettled station of least time, then lowest number" and settle it."""
@@ -102,7 +104,7 @@ def df_step(search):
         search.relax_moves(s, content)
 
 
-def run(step, image, source, lengths):
+def run(step, image, source, strip, lengths):
     parts = parse(image)
     if parts[0] == 'refused':
         return untouched(*parts[1:])
@@ -111,7 +113,7 @@ def run(step, image, source, lengths):
         return untouched(6)
     if any(length < n for length in lengths):
         return untouched(7)
-    search = Search(n, directory, pages, source)
+    search = Search(n, directory, pages, source, strip)
     try:
         while search.open:  # "if none has a time, end"
             step(search)
@@ -125,9 +127,9 @@ def run(step, image, source, lengths):
     return Outcome(answer, times, predecessors, [0] * n, search.list)
 
 
-def plain(image, source, lengths):
-    return run(plain_step, image, source, lengths)
+def plain(image, source, strip, lengths):
+    return run(plain_step, image, source, strip, lengths)
 
 
-def df(image, source, lengths):
-    return run(df_step, image, source, lengths)
+def df(image, source, strip, lengths):
+    return run(df_step, image, source, strip, lengths)

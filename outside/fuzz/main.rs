@@ -1,6 +1,6 @@
 //! The fuzzer: `fuzz [COUNT [SEED [FIRST]]]` draws COUNT cases (without COUNT it runs without end) and compares all
-//! that the engine's C interface gives with the reference, every entry of every table. The examples of document 01
-//! come first. A difference ends it with a failing status and the words that bring the case up again.
+//! that the engine's C interface gives with the reference, every entry of every table. The examples of documents 01
+//! and 02 come first. A difference ends it with a failing status and the words that bring the case up again.
 
 mod lent;
 mod paper;
@@ -13,7 +13,7 @@ use outside::random::Random;
 use std::process::ExitCode;
 use tally::Tally;
 
-/// From so many cases on, every refusal must have come up.
+/// From so many cases on, every refusal and all that is noted must have come up.
 const ENOUGH_FOR_ALL: u64 = 10_000;
 
 fn main() -> ExitCode {
@@ -26,9 +26,9 @@ fn main() -> ExitCode {
     let seed = numbers.get(1).copied().unwrap_or(1);
     let first = numbers.get(2).copied().unwrap_or(0);
     match paper::compare() {
-        Ok(examples) => println!("{examples} examples of document 01: as printed there"),
+        Ok(examples) => println!("{examples} examples of documents 01 and 02: as written there"),
         Err(difference) => {
-            println!("document 01, {difference}");
+            println!("documents 01 and 02, {difference}");
             return ExitCode::FAILURE;
         }
     }

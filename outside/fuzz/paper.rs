@@ -1,16 +1,16 @@
 //! The examples that document 01 prints with their answers: the table of refusals, course cases C1 to C10 and the
-//! limits named beside them. They are held against the reference as well as the engine, so that both hang on the
-//! paper.
+//! bounds named beside them; and what document 02 says of limits, on pages made for it. They are held against the
+//! reference as well as the engine, so that both hang on the paper.
 
 use outside::maps::Map;
 use outside::reference::lists::one_page_reads;
 use outside::reference::route::Routes;
-use outside::reference::{image, letter, Answer, Search, Tables, SOURCE};
+use outside::reference::{image, letter, Answer, Query, Search, Tables, SOURCE};
 use outside::yard;
 
 /// Both implementations of each call, under one signature.
 type Check = fn(&[u8]) -> Answer;
-type Run = fn(Search, &[u8], u16, Tables) -> Answer;
+type Run = fn(Search, &[u8], Query, Tables) -> Answer;
 type Way = fn(&[u16], u16, &mut [u16]) -> Answer;
 
 struct Calls {
@@ -27,7 +27,7 @@ const REFERENCE: Calls = Calls {
 
 const ENGINE: Calls = Calls {
     check: |image| answered(|answer| yard::check(image, answer)),
-    search: |kind, image, source, tables| answered(|answer| yard::search(kind, image, source, tables, answer)),
+    search: |kind, image, query, tables| answered(|answer| yard::search(kind, image, query, tables, answer)),
     route: |preds, station, out| answered(|answer| yard::route(preds, station, out, answer)),
 };
 
@@ -42,8 +42,8 @@ fn answered(call: impl FnOnce(&mut [u32]) -> u32) -> Answer {
 pub fn compare() -> Result<usize, String> {
     let mut tried = 0;
     for (name, calls) in [("reference", REFERENCE), ("engine", ENGINE)] {
-        let examples = [headings(&calls), pages(&calls), course(&calls), routes(&calls), limits(&calls)];
-        let examples: Vec<_> = examples.into_iter().flatten().collect();
+        let document_01 = [headings(&calls), pages(&calls), course(&calls), routes(&calls), bounds(&calls)];
+        let examples: Vec<_> = document_01.into_iter().flatten().chain(limits(&calls)).collect();
         if let Some((example, _)) = examples.iter().find(|(_, holds)| !holds) {
             return Err(format!("{name}: {example}"));
         }
@@ -69,6 +69,11 @@ fn map(stations: u16, directory: &[u8], pages: &[&[u8]]) -> Vec<u8> {
     image
 }
 
+/// From a station, for the strip that document 01's records have. None of its maps has a limit.
+fn from(source: u16) -> Query {
+    Query { source, strip: 8_120 }
+}
+
 /// S, the 261-byte map.
 fn s() -> Vec<u8> {
     map(1, &[0], &[&[1, 0, 0, 0]])
@@ -84,14 +89,14 @@ fn headings(calls: &Calls) -> Examples {
         ("3", check(&[1, 0, 0, 0], refused(3, 0, 0))),
         ("4", check(&s[..260], refused(4, 0, 0))),
         ("5", check(&map(1, &[1], &[&[1, 0, 0, 0]]), refused(5, 0, 0))),
-        ("6", search(calls, Search::Df, &s, 1, 1).answer == refused(6, 0, 0)),
+        ("6", search(calls, Search::Df, &s, from(1), 1).answer == refused(6, 0, 0)),
         ("7", list_of_none(calls, &s) == refused(7, 0, 0)),
     ]
 }
 
 fn list_of_none(calls: &Calls, image: &[u8]) -> Answer {
     let tables = Tables { times: &mut [7], preds: &mut [7], marks: &mut [7], list: &mut [] };
-    (calls.search)(Search::Df, image, 0, tables)
+    (calls.search)(Search::Df, image, from(0), tables)
 }
 
 fn pages(calls: &Calls) -> Examples {
@@ -121,10 +126,10 @@ struct Given {
     list: Vec<u8>,
 }
 
-fn search(calls: &Calls, kind: Search, image: &[u8], source: u16, n: usize) -> Given {
+fn search(calls: &Calls, kind: Search, image: &[u8], query: Query, n: usize) -> Given {
     let (mut times, mut preds, mut marks, mut list) = (vec![7; n], vec![7; n], vec![7; n], vec![7; n]);
     let tables = Tables { times: &mut times, preds: &mut preds, marks: &mut marks, list: &mut list };
-    let answer = (calls.search)(kind, image, source, tables);
+    let answer = (calls.search)(kind, image, query, tables);
     list.truncate(answer.count as usize);
     Given { answer, times, preds, list }
 }
@@ -137,13 +142,13 @@ fn m7() -> Vec<u8> {
 fn drawn(pages: usize, directory: Vec<u8>, moves: &[(usize, usize, u16)]) -> Vec<u8> {
     let mut map = Map::new(pages, directory);
     for &(from, target, time) in moves {
-        map.add(from, target, time);
+        map.add(from, target, time, None);
     }
     map.image()
 }
 
 fn course(calls: &Calls) -> Examples {
-    let run = |kind, image: &[u8], source| search(calls, kind, image, source, usize::from(image[0]));
+    let run = |kind, image: &[u8], source| search(calls, kind, image, from(source), usize::from(image[0]));
     let (df, plain) = (run(Search::Df, &m7(), 0), run(Search::Plain, &m7(), 0));
     let alone = run(Search::Df, &m7(), 6);
     let single = run(Search::Df, &s(), 0);
@@ -184,17 +189,37 @@ fn routes(calls: &Calls) -> Examples {
 }
 
 /// N 2,048 and 2,049; P 240 and 241; times 65,535 (and 0, which is the example of 13).
-fn limits(calls: &Calls) -> Examples {
+fn bounds(calls: &Calls) -> Examples {
     let check = |image: &[u8], wanted| (calls.check)(image) == wanted;
     let spread = |stations: usize, pages: usize| (0..stations).map(|at| (at % pages) as u8).collect::<Vec<u8>>();
     let full = drawn(240, spread(2048, 240), &[(0, 1, 65535), (1, 2047, 65535)]);
     let too_many = [2049u16.to_le_bytes().to_vec(), vec![240, 0], vec![0; 2049 + 256 * 240]].concat();
     let too_long = [vec![1, 0, 241, 0, 0], vec![0; 256 * 241]].concat();
-    let long = search(calls, Search::Df, &full, 0, 2048);
+    let long = search(calls, Search::Df, &full, from(0), 2048);
     vec![
         ("N 2,048, P 240", full.len() == 63_492 && check(&full, Answer::default())),
         ("N 2,049", check(&too_many, refused(2, 0, 0))),
         ("P 241", check(&too_long, refused(3, 0, 0))),
         ("times 65,535", long.times[2047] == 131_070 && long.answer.reached == 3),
+    ]
+}
+
+/// "It refuses a limit of 0 with 18, tried after 13"; "use a move only if its limit isn't below it". In the last map
+/// the way 0-1-2 takes 7 and its second move strips of up to 8,120 decimetres; 0-2 takes 9.
+fn limits(calls: &Calls) -> Examples {
+    let check = |page: &[u8], wanted| (calls.check)(&map(2, &[0, 0], &[page])) == wanted;
+    let page = [1, 0, 0, 2, 1, 0, 4, 0, 2, 2, 0, 9, 0, 1, 1, 0, 3, 2, 0, 3, 0, 0xB8, 0x1F, 1, 2, 0];
+    let open = |strip, times: [u32; 3]| {
+        let run = |kind| search(calls, kind, &map(3, &[0; 3], &[&page]), Query { source: 0, strip }, 3);
+        run(Search::Plain).times == times && run(Search::Df).times == times
+    };
+    vec![
+        ("04 is unknown", check(&[4], refused(8, 0, 0))),
+        ("18", check(&[1, 0, 0, 3, 1, 0, 1, 0, 0, 0], refused(18, 0, 3))),
+        ("13 before 18", check(&[1, 0, 0, 3, 1, 0, 0, 0, 0, 0], refused(13, 0, 3))),
+        ("limit 8,120, strip 0", open(0, [0, 4, 7])),
+        ("limit 8,120, strip 8,120", open(8_120, [0, 4, 7])),
+        ("limit 8,120, strip 8,121", open(8_121, [0, 4, 9])),
+        ("limit 8,120, strip 65,535", open(65_535, [0, 4, 9])),
     ]
 }

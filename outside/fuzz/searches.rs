@@ -1,4 +1,5 @@
-//! One image, source and set of tables: whole check, both searches, demand 3 and the routes by the predecessors left.
+//! One image, source and set of tables: whole check; for each of two strips both searches, demand 3 and the routes by
+//! the predecessors left; and the times for the one strip against those for the other.
 
 use crate::lent::{self, Lent, LentTables, Outcome};
 use crate::routes;
@@ -9,15 +10,15 @@ use outside::maps::{page_bytes, Command};
 use outside::random::Random;
 use outside::reference::image::{self, Image};
 use outside::reference::lists::{entry_stations, is_left_of, listed, listed_too_often, one_page_reads};
-use outside::reference::walks::{self, Pages, RefusedPage};
-use outside::reference::{letter, Answer, Search};
+use outside::reference::walks::{self, Leg, Pages, RefusedPage, Truth};
+use outside::reference::{letter, Answer, Query, Search};
 use outside::yard;
 
 /// One search as it is called, before the call.
 struct Called<'a> {
     kind: Search,
     image: &'a [u8],
-    source: u16,
+    query: Query,
     answer: Lent<u32>,
     tables: LentTables,
 }
@@ -35,29 +36,30 @@ impl Agreed {
     }
 }
 
+/// Both searches for one strip.
+struct Both {
+    query: Query,
+    plain: Agreed,
+    df: Agreed,
+}
+
 pub fn compare(case: &Case, random: &mut Random, tally: &mut Tally) -> Result<(), String> {
     compare_check(case, random, tally)?;
     let tables = LentTables::new(case.stations, random);
-    let plain = Called::new(Search::Plain, case, &tables, random).agreed(tally)?;
-    let df = Called::new(Search::Df, case, &tables, random).agreed(tally)?;
-    for (kind, agreed) in [(Search::Plain, &plain), (Search::Df, &df)] {
-        let call = Called::new(kind, case, &tables, random);
-        call.compare_scrambled(agreed.list(), random, tally)
-            .map_err(|difference| format!("{kind:?}: {difference}"))?;
-    }
+    let [short, long] = case.strips;
+    let shorter = compare_both(case, short, &tables, random, tally)?;
+    let longer = compare_both(case, long, &tables, random, tally)?;
+    compare_times(&shorter, &longer, tally)?;
     let Ok(image) = Image::open(&case.image) else { return Ok(()) };
     let pages = walks::read_all(&image);
     compare_pages(&image, &pages, case)?;
-    if matches!(df.answer.refusal, 6 | 7) {
-        return Ok(());
+    for both in [shorter, longer] {
+        if !matches!(both.df.answer.refusal, 6 | 7) {
+            compare_demands(&image, &pages, &both, random, tally)
+                .map_err(|difference| format!("strip {}: {difference}", both.query.strip))?;
+        }
     }
-    compare_truth(&image, &pages, case.source, &plain, &df)?;
-    if df.answer.refusal == 0 {
-        compare_lists(&image, &pages, case.source, &plain, &df)?;
-    }
-    tally.search(&image, &pages, plain.list(), df.list(), df.answer.refusal == 0);
-    let times = df.outcome.tables.times.entries();
-    routes::compare_all(&df.outcome.tables.preds, times, &walks::legs(&pages), image.stations, random, tally)
+    Ok(())
 }
 
 fn compare_check(case: &Case, random: &mut Random, tally: &mut Tally) -> Result<(), String> {
@@ -72,24 +74,41 @@ fn compare_check(case: &Case, random: &mut Random, tally: &mut Tally) -> Result<
         .map_err(|difference| format!("check: {difference}"))
 }
 
-impl<'a> Called<'a> {
-    fn new(kind: Search, case: &'a Case, tables: &LentTables, random: &mut Random) -> Self {
-        let (image, source) = (&case.image[..], case.source);
-        Called { kind, image, source, answer: lent::answer(random), tables: tables.clone() }
+fn compare_both(
+    case: &Case,
+    strip: u16,
+    tables: &LentTables,
+    random: &mut Random,
+    tally: &mut Tally,
+) -> Result<Both, String> {
+    let query = Query { source: case.source, strip };
+    let mut compare = |kind| {
+        let call = Called { kind, image: &case.image, query, answer: lent::answer(random), tables: tables.clone() };
+        call.compare(random, tally).map_err(|difference| format!("{kind:?}, strip {strip}: {difference}"))
+    };
+    Ok(Both { query, plain: compare(Search::Plain)?, df: compare(Search::Df)? })
+}
+
+impl Called<'_> {
+    /// Our search against the reference's, and against ours on an image with other unlisted pages.
+    fn compare(&self, random: &mut Random, tally: &mut Tally) -> Result<Agreed, String> {
+        let agreed = self.agreed(tally)?;
+        self.compare_scrambled(agreed.list(), random, tally)?;
+        Ok(agreed)
     }
 
     fn ours(&self, image: &[u8]) -> Outcome {
         let (mut answer, mut tables) = (self.answer.clone(), self.tables.clone());
-        let refusal = yard::search(self.kind, image, self.source, tables.lend(), answer.lend());
+        let refusal = yard::search(self.kind, image, self.query, tables.lend(), answer.lend());
         Outcome { refusal, answer, tables }
     }
 
     fn agreed(&self, tally: &mut Tally) -> Result<Agreed, String> {
         let (mut lent_answer, mut tables) = (self.answer.clone(), self.tables.clone());
-        let answer = letter::search(self.kind, self.image, self.source, tables.lend());
+        let answer = letter::search(self.kind, self.image, self.query, tables.lend());
         answer.write(lent_answer.lend());
         let outcome = Outcome { refusal: answer.refusal, answer: lent_answer, tables };
-        self.ours(self.image).compare(&outcome).map_err(|difference| format!("{:?}: {difference}", self.kind))?;
+        self.ours(self.image).compare(&outcome)?;
         tally.call(Call::of(self.kind), answer, false);
         Ok(Agreed { answer, outcome })
     }
@@ -111,7 +130,7 @@ fn compare_pages(image: &Image, pages: &Pages, case: &Case) -> Result<(), String
             let mut commands = Vec::new();
             for station in content {
                 commands.push(Command::Station(station.number));
-                commands.extend(station.moves.iter().map(|step| Command::Move(step.target, step.time)));
+                commands.extend(station.moves.iter().copied().map(Command::Move));
             }
             commands.push(Command::End);
             if page_bytes(&commands) != image.bytes_of(page) {
@@ -126,9 +145,31 @@ fn compare_pages(image: &Image, pages: &Pages, case: &Case) -> Result<(), String
     Ok(())
 }
 
+/// Demands 2 and 3, of the moves open to the strip.
+fn compare_demands(
+    image: &Image,
+    pages: &Pages,
+    both: &Both,
+    random: &mut Random,
+    tally: &mut Tally,
+) -> Result<(), String> {
+    let Both { query, plain, df } = both;
+    let legs = walks::legs(pages, query.strip);
+    let truth = walks::truth(image, pages, *query);
+    compare_truth(image, &truth, plain, df)?;
+    let accepted = df.answer.refusal == 0;
+    if accepted {
+        compare_lists(image, &legs, query.source, plain, df)?;
+    }
+    tally.search(image, pages, plain.list(), df.list(), accepted);
+    let all_open = Query { strip: 0, ..*query };
+    tally.closed(walks::legs(pages, 0).len() - legs.len(), &truth, &walks::truth(image, pages, all_open));
+    let times = df.outcome.tables.times.entries();
+    routes::compare_all(&df.outcome.tables.preds, times, &legs, image.stations, random, tally)
+}
+
 /// Times, predecessors, number reached, refused page and Dijkstra's list by the other method.
-fn compare_truth(image: &Image, pages: &Pages, source: u16, plain: &Agreed, df: &Agreed) -> Result<(), String> {
-    let truth = walks::truth(image, pages, source);
+fn compare_truth(image: &Image, truth: &Truth, plain: &Agreed, df: &Agreed) -> Result<(), String> {
     if plain.list() != truth.plain_list {
         return Err("the plain list is not the settled stations' pages".into());
     }
@@ -154,12 +195,12 @@ fn compare_truth(image: &Image, pages: &Pages, source: u16, plain: &Agreed, df: 
 }
 
 /// Demand 3 of an accepted search: entries left out, entry stations, reads with one page held.
-fn compare_lists(image: &Image, pages: &Pages, source: u16, plain: &Agreed, df: &Agreed) -> Result<(), String> {
+fn compare_lists(image: &Image, legs: &[Leg], source: u16, plain: &Agreed, df: &Agreed) -> Result<(), String> {
     let (ours, dijkstras) = (df.list(), plain.list());
     if !is_left_of(ours, dijkstras) {
         return Err("the DF list is not the plain list with entries left out".into());
     }
-    let entries = entry_stations(image.directory, &walks::legs(pages), source, ours);
+    let entries = entry_stations(image.directory, legs, source, ours);
     if let Some(page) = listed_too_often(ours, &entries) {
         return Err(format!(
             "page {page} is listed more often than its {} entry stations",
@@ -168,6 +209,22 @@ fn compare_lists(image: &Image, pages: &Pages, source: u16, plain: &Agreed, df: 
     }
     if one_page_reads(ours) > one_page_reads(dijkstras) {
         return Err("the DF list takes more reads with one page held".into());
+    }
+    Ok(())
+}
+
+/// "For two lengths on one map from one source, both accepted, the longer never has a lesser time"; none is above all.
+fn compare_times(shorter: &Both, longer: &Both, tally: &mut Tally) -> Result<(), String> {
+    for (name, shorter, longer) in [("plain", &shorter.plain, &longer.plain), ("DF", &shorter.df, &longer.df)] {
+        if shorter.answer.refusal != 0 || longer.answer.refusal != 0 {
+            continue;
+        }
+        let times = || shorter.outcome.tables.times.entries().iter().zip(longer.outcome.tables.times.entries());
+        if let Some(station) = times().position(|(shorter, longer)| longer < shorter) {
+            return Err(format!("{name}: station {station} has a lesser time for the longer strip"));
+        }
+        let greater = times().any(|(shorter, longer)| longer > shorter);
+        tally.note("two strips accepted, a greater time for the longer", greater);
     }
     Ok(())
 }

@@ -1,9 +1,9 @@
 //! What came up in a run: how often each call gave each refusal, of which kinds the cases were, and how often the
-//! searches did what is easily got wrong.
+//! searches did what is easily got wrong or had moves closed.
 
 use outside::reference::image::Image;
 use outside::reference::lists::one_page_reads;
-use outside::reference::walks::Pages;
+use outside::reference::walks::{Pages, Truth};
 use outside::reference::{Answer, Search};
 use std::collections::BTreeMap;
 use std::fmt;
@@ -25,9 +25,9 @@ impl Call {
     }
 }
 
-/// Accepted, refusals 1 to 17, "no route".
-const OUTCOMES: usize = 19;
-const NO_ROUTE: usize = 18;
+/// Accepted, refusals 1 to 18, "no route".
+const OUTCOMES: usize = 20;
+const NO_ROUTE: usize = 19;
 
 #[derive(Default)]
 pub struct Tally {
@@ -60,15 +60,24 @@ impl Tally {
         self.note("maps of 2,048 stations and 240 pages", image.stations == 2048 && image.pages == 240);
     }
 
+    /// What closed moves did to a search, beside what it would give if every move were open.
+    pub fn closed(&mut self, moves: usize, truth: &Truth, all_open: &Truth) {
+        let differs = truth.times != all_open.times || truth.plain_list != all_open.plain_list;
+        self.note("some move closed", moves > 0);
+        self.note("some move closed, a time or the plain list differs by it", moves > 0 && differs);
+        self.note("accepted, refused if every move were open", truth.refused.is_none() && all_open.refused.is_some());
+    }
+
     /// Counts something that is easily got wrong, or tried without effect.
     pub fn note(&mut self, note: &'static str, came_up: bool) {
         *self.notes.entry(note).or_default() += u64::from(came_up);
     }
 
-    /// The refusals that no call gave.
+    /// The refusals that no call gave, and what was looked for and not seen.
     pub fn missing(&self) -> Vec<String> {
         let never = |outcome: &usize| self.calls.iter().all(|call| call[*outcome] == 0);
-        (0..OUTCOMES).filter(never).map(name).collect()
+        let unseen = self.notes.iter().filter(|(_, &count)| count == 0).map(|(note, _)| note.to_string());
+        (0..OUTCOMES).filter(never).map(name).chain(unseen).collect()
     }
 }
 

@@ -5,7 +5,7 @@ pub mod cases;
 pub mod damage;
 pub mod good;
 
-use std::collections::BTreeMap;
+use crate::reference::image::Move;
 
 pub const PAGE_BYTES: usize = 256;
 pub const MOST_STATIONS: usize = 2048;
@@ -18,7 +18,7 @@ pub const MOST_ON_A_PAGE: usize = 85;
 pub enum Command {
     End,
     Station(u16),
-    Move(u16, u16),
+    Move(Move),
 }
 
 impl Command {
@@ -26,7 +26,8 @@ impl Command {
         match self {
             Command::End => 1,
             Command::Station(_) => 3,
-            Command::Move(..) => 5,
+            Command::Move(step) if step.limit.is_none() => 5,
+            Command::Move(_) => 7,
         }
     }
 
@@ -37,10 +38,11 @@ impl Command {
                 bytes.push(1);
                 bytes.extend(number.to_le_bytes());
             }
-            Command::Move(target, time) => {
-                bytes.push(2);
-                bytes.extend(target.to_le_bytes());
-                bytes.extend(time.to_le_bytes());
+            Command::Move(Move { target, time, limit }) => {
+                bytes.push(if limit.is_none() { 2 } else { 3 });
+                for number in [Some(target), Some(time), limit].into_iter().flatten() {
+                    bytes.extend(number.to_le_bytes());
+                }
             }
         }
     }
@@ -48,7 +50,7 @@ impl Command {
 
 /// A page's bytes: its commands and zeros, cut at the page's end.
 pub fn page_bytes(commands: &[Command]) -> Vec<u8> {
-    let mut bytes = Vec::with_capacity(PAGE_BYTES + 5);
+    let mut bytes = Vec::with_capacity(PAGE_BYTES + 7);
     for command in commands {
         command.write(&mut bytes);
     }
@@ -56,11 +58,11 @@ pub fn page_bytes(commands: &[Command]) -> Vec<u8> {
     bytes
 }
 
-/// A map: for each station its page and its moves (target and time). `add` keeps every page within its 256 bytes.
+/// A map: for each station its page and its moves by rising target. `add` keeps every page within its 256 bytes.
 pub struct Map {
     pub pages: usize,
     pub directory: Vec<u8>,
-    pub moves: Vec<BTreeMap<u16, u16>>,
+    pub moves: Vec<Vec<Move>>,
     room: Vec<usize>,
 }
 
@@ -71,7 +73,7 @@ impl Map {
         for &page in &directory {
             room[usize::from(page)] -= Command::Station(0).length();
         }
-        let moves = vec![BTreeMap::new(); directory.len()];
+        let moves = vec![Vec::new(); directory.len()];
         Map { pages, directory, moves, room }
     }
 
@@ -80,15 +82,16 @@ impl Map {
     }
 
     /// Adds a move if it is one, is new and finds room on its page.
-    pub fn add(&mut self, from: usize, target: usize, time: u16) -> bool {
+    pub fn add(&mut self, from: usize, target: usize, time: u16, limit: Option<u16>) {
+        let step = Move { target: target as u16, time, limit };
+        let length = Command::Move(step).length();
         let room = &mut self.room[usize::from(self.directory[from])];
-        let length = Command::Move(0, 0).length();
-        if from == target || *room < length || self.moves[from].contains_key(&(target as u16)) {
-            return false;
+        let moves = &mut self.moves[from];
+        let place = moves.binary_search_by_key(&step.target, |other| other.target);
+        if let (Err(at), true) = (place, from != target && *room >= length) {
+            *room -= length;
+            moves.insert(at, step);
         }
-        *room -= length;
-        self.moves[from].insert(target as u16, time);
-        true
     }
 
     /// The stations of a page, rising.
@@ -101,8 +104,7 @@ impl Map {
         let mut commands = Vec::new();
         for station in self.stations_of(page) {
             commands.push(Command::Station(station));
-            let moves = self.moves[usize::from(station)].iter();
-            commands.extend(moves.map(|(&target, &time)| Command::Move(target, time)));
+            commands.extend(self.moves[usize::from(station)].iter().copied().map(Command::Move));
         }
         commands.push(Command::End);
         commands

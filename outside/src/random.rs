@@ -41,6 +41,11 @@ impl Random {
         items[self.below(items.len())]
     }
 
+    /// The number itself, one less or one more.
+    pub fn next_to(&mut self, number: u16) -> u16 {
+        self.pick(&[number.saturating_sub(1), number, number.saturating_add(1)])
+    }
+
     /// Puts the items into an order in which each is as likely as any other.
     pub fn shuffle<T>(&mut self, items: &mut [T]) {
         for at in (1..items.len()).rev() {

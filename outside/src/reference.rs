@@ -1,6 +1,7 @@
-//! Document 01 once more, in Rust and from its words alone: the whole check and page reader (`image`), both searches
-//! step by step (`letter`), what a search has to give by an altogether different method (`walks`), the words of
-//! demand 3 (`lists`) and the route (`route`). Slow and plain on purpose: it is there to be read and believed.
+//! Document 01 once more, with the limits of document 02, in Rust and from their words alone: the whole check and page
+//! reader (`image`), both searches step by step (`letter`), what a search has to give by an altogether different
+//! method (`walks`), the words of demand 3 (`lists`) and the route (`route`). Slow and plain on purpose: it is there to
+//! be read and believed.
 
 pub mod image;
 pub mod letter;
@@ -19,6 +20,13 @@ pub const NO_PREDECESSOR: u16 = 65_535;
 pub enum Search {
     Plain,
     Df,
+}
+
+/// What a search is asked: the station to start from, and the length of the strip in decimetres.
+#[derive(Clone, Copy, Debug, PartialEq, Eq)]
+pub struct Query {
+    pub source: u16,
+    pub strip: u16,
 }
 
 /// The four tables lent to a search.

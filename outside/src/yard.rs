@@ -20,7 +20,7 @@ macro_rules! calls_of_a_build {
         pub fn search(
             kind: $crate::reference::Search,
             image: &[u8],
-            source: u16,
+            query: $crate::reference::Query,
             tables: $crate::reference::Tables,
             answer: &mut [u32],
         ) -> u32 {
@@ -33,7 +33,8 @@ macro_rules! calls_of_a_build {
                 call(
                     image.as_ptr(),
                     image.len(),
-                    source,
+                    query.source,
+                    query.strip,
                     tables.times.as_mut_ptr(),
                     tables.times.len(),
                     tables.preds.as_mut_ptr(),
@@ -59,6 +60,7 @@ macro_rules! declare_search {
                 image: *const u8,
                 image_len: usize,
                 source: u16,
+                length: u16,
                 times: *mut u32,
                 times_len: usize,
                 preds: *mut u16,

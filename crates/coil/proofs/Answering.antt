@@ -11,7 +11,7 @@ use Rattle.coil.specs.Line.{coilOf, lengthOf, stationOf, blank, lineOf, 
 
 pub line-of-record : (image bytes : List ℕ) {coil length station : ℕ} {reply : Reply} → coil ≡ coilOf bytes
     → length ≡ lengthOf bytes → station ≡ stationOf bytes
-    → reply ≡ (searched dfSearch (asked image station) blank) .reply
+    → reply ≡ (searched dfSearch (asked image station length) blank) .reply
     → lineOf coil length station reply ≡ recordLine image bytes
 unfolding recordLine
 line-of-record image bytes c l s r = rw (r, c, l, s)

@@ -49,8 +49,9 @@ lineOf coil length station r =
 abbrev pub blank : Lent
 blank = lent (replicate 2048 0) (replicate 2048 0) (replicate 2048 0) (replicate 2048 0)
 
--- "Each record in turn gives the source of a DF search and one line". "Length has no bearing on the way."
+-- "Each record in turn gives the source of a DF search and one line". C-11: "the rule that length has no bearing on the
+-- way is withdrawn", and "Searches take a length": the record's.
 unfoldable pub recordLine : List ℕ → List ℕ → List ℕ
 recordLine image bytes =
     lineOf (coilOf bytes) (lengthOf bytes) (stationOf bytes)
-    ((searched dfSearch (asked image (stationOf bytes)) blank) .reply)
+    ((searched dfSearch (asked image (stationOf bytes) (lengthOf bytes)) blank) .reply)

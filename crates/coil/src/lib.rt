@@ -1,5 +1,5 @@
-// The answer to a coil record: the DF search from the record's station, as the line of text that the program `coils`
-// prints (01, "Route, whole check, program").
+// The answer to a coil record: the DF search from the record's station for a strip of its length, as the line of text
+// that the program `coils` prints (01, "Route, whole check, program").
 
 ghost use mathlib.Core.Path.{_≡_};
 ghost use Prim.Native.Nat.{_≤_};
@@ -19,9 +19,10 @@ mod records;
 // The bytes of a line's buffer (specs/Writing.antt, `lineRoom`).
 pub const ROOM: usize = 160;
 
-// The search from a station, on tables with room for every map.
-fn search_from(image: &[u8], station: u16) -> Answer
-    ensures reply { λ r. ⌜ replyOf r ≡ (searched dfSearch (asked (now (image .entry)) station) blank) .reply ⌝ }
+// The search from a station for a strip, on tables with room for every map.
+fn search_from(image: &[u8], station: u16, strip: u16) -> Answer
+    ensures reply { λ r. ⌜
+        replyOf r ≡ (searched dfSearch (asked (now (image .entry)) station strip) blank) .reply ⌝ }
 {
     let mut times = [0u32; 2048];
     let mut preds = [0u16; 2048];
@@ -30,6 +31,7 @@ fn search_from(image: &[u8], station: u16) -> Answer
     search::calls::df(
         image,
         station,
+        strip,
         &mut times,
         &mut preds,
         &mut marks,
@@ -45,6 +47,6 @@ pub fn answer_record(image: &[u8], bytes: &[u8; 8], line: &mut [u8; ROOM]) -> us
     ensures fits { λ r. ⌜ r ≤ length (now (line .exit)) ⌝ }
 {
     let parts = record_of(bytes);
-    let answer = search_from(image, parts.station);
+    let answer = search_from(image, parts.station, parts.length);
     put_line(line, parts, answer)
 }

@@ -1,26 +1,43 @@
 -- Commands at an offset: the table of their lengths, what stands there if one is read, and each command by its code.
-use Rattle.common.proofs.Ground.{_≡_, refl, subst, List, ℕ, zero, suc, _+_, _≤_, _<_, arith, length, getD, lit≤, eqb}
-use Rattle.common.proofs.Ground.{ltb, leb, ltb-false, eqb-true, eqb-false, lt-leb, le-ltb, lt-ltb}
+use Rattle.common.proofs.Ground.{_≡_, _≢_, refl, subst, _⊎_, inl, inr, dite, List, ℕ, zero, suc, _+_, _≤_, _<_, arith}
+use Rattle.common.proofs.Ground.{ℕ-discrete, length, getD, lit≤, eqb, ltb, leb, ltb-false, eqb-true, eqb-false, eq-eqb}
+use Rattle.common.proofs.Ground.{ne-eqb, lt-leb, le-ltb, lt-ltb}
 use Rattle.common.proofs.Cases.{by-pick}
+use Rattle.commands.specs.declared.Move.{Move}
 use Rattle.commands.specs.declared.Command.{Command}
-use Rattle.commands.specs.declared.Command.the-variants.{End, Station, MoveTo, Fault}
+use Rattle.commands.specs.declared.Command.the-variants.{End, Station, MoveTo, Limited, Fault}
 use Rattle.image.specs.Bytes.{word}
-use Rattle.commands.specs.Commands.{lengthOf, commandAt}
+use Rattle.commands.specs.Commands.{lengthOf, moveWith, commandAt}
 
 -- no command is longer than a page
 pub length-most : (code : ℕ) → lengthOf code ≤ 256
 length-most zero = lit≤ tt
 length-most (suc zero) = lit≤ tt
 length-most (suc (suc zero)) = lit≤ tt
-length-most (suc (suc (suc code))) = lit≤ tt
+length-most (suc (suc (suc zero))) = lit≤ tt
+length-most (suc (suc (suc (suc code)))) = lit≤ tt
+
+-- a move takes five bytes or seven
+pub move-width : {code : ℕ} → (code ≡ 2) ⊎ (code ≡ 3) → (5 ≤ lengthOf code) × (lengthOf code ≤ 7)
+move-width (inl e) = rw e (lit≤ tt, lit≤ tt)
+move-width (inr e) = rw e (lit≤ tt, lit≤ tt)
+
+-- What stands there if a move of that code is read.
+pub record MoveStands (page : List ℕ) (at code : ℕ) (m : Move) : Type 0 where
+  pub ends : at + lengthOf code ≤ length page
+  pub coded : getD page at 0 ≡ code
+  pub move : (code ≡ 2) ⊎ (code ≡ 3)
+  pub target : word page (at + 1) ≡ m .target
+  pub time : word page (at + 3) ≡ m .time
+  pub unlimited : code ≡ 2 → m .limit ≡ 0
+  pub limit : code ≡ 3 → word page (at + 5) ≡ m .limit
 
 -- What was read as a command stands there: it ends within the page, and its code and its numbers are these.
 abbrev pub Stands : List ℕ → ℕ → Command → Type 0
 Stands page at End = (at + lengthOf 0 ≤ length page) × (getD page at 0 ≡ 0)
 Stands page at (Station v) = (at + lengthOf 1 ≤ length page) × (getD page at 0 ≡ 1) × (word page (at + 1) ≡ v)
-Stands page at (MoveTo m) =
-    (at + lengthOf 2 ≤ length page) × (getD page at 0 ≡ 2) × (word page (at + 1) ≡ m .target)
-    × (word page (at + 3) ≡ m .time)
+Stands page at (MoveTo m) = MoveStands page at 2 m
+Stands page at (Limited m) = MoveStands page at 3 m
 Stands page at (Fault number) = Unit {0}
 
 module _ (page : List ℕ) (at : ℕ) where
@@ -33,20 +50,46 @@ module _ (page : List ℕ) (at : ℕ) where
       let Here = Stands page at in
       subst Here e
       (by-pick Here (leb (length page) at) (λ past. tt) λ inside.
-      by-pick Here (ltb 2 code) (λ unknown. tt) λ known.
+      by-pick Here (ltb 3 code) (λ unknown. tt) λ known.
       by-pick Here (ltb (length page) (at + lengthOf code)) (λ cut. tt) λ fits.
       let ends : (n : ℕ) → code ≡ n → at + lengthOf n ≤ length page = λ n is.
       rw is at (ltb-false (length page) (at + lengthOf code) fits) in
       by-pick Here (eqb code 0) (λ end. let is = eqb-true code 0 end in (ends 0 is, is)) λ not-end.
       by-pick Here (eqb code 1) (λ station. let is = eqb-true code 1 station in (ends 1 is, is, refl)) λ not-station.
-      let is : code ≡ 2 = omega (arith, ltb-false, eqb-false) in
-      (ends 2 is, is, refl, refl))
+      by-pick Here (eqb code 2)
+      (λ plain.
+      let is = eqb-true code 2 plain in
+      record {
+        ends = ends 2 is;
+        coded = is;
+        move = inl refl;
+        target = refl;
+        time = refl;
+        unlimited = λ e. refl;
+        limit = λ e. absurd (omega arith);
+      })
+      (λ other.
+      let is : code ≡ 3 = omega (arith, ltb-false, eqb-false) in
+      record {
+        ends = ends 3 is;
+        coded = is;
+        move = inr refl;
+        target = refl;
+        time = refl;
+        unlimited = λ e. absurd (omega arith);
+        limit = λ e. refl;
+      }))
 
   -- each command by its code, where it ends within the page and where it does not
   pub command-move : code ≡ 2 → at + lengthOf 2 ≤ length page
-      → commandAt page at ≡ MoveTo (record { target = word page (at + 1); time = word page (at + 3) })
+      → commandAt page at ≡ MoveTo (moveWith page at 0)
   unfolding commandAt
   command-move e l = let h : at < length page = omega arith in simp (lt-leb _ _ h, e, le-ltb _ _ l)
+
+  pub command-limited : code ≡ 3 → at + lengthOf 3 ≤ length page
+      → commandAt page at ≡ Limited (moveWith page at (word page (at + 5)))
+  unfolding commandAt
+  command-limited e l = let h : at < length page = omega arith in simp (lt-leb _ _ h, e, le-ltb _ _ l)
 
   pub command-station : code ≡ 1 → at + lengthOf 1 ≤ length page → commandAt page at ≡ Station (word page (at + 1))
   unfolding commandAt
@@ -56,11 +99,11 @@ module _ (page : List ℕ) (at : ℕ) where
   unfolding commandAt
   command-end e l = let h : at < length page = omega arith in simp (lt-leb _ _ h, e, le-ltb _ _ l)
 
-  pub command-cut : (n : ℕ) → n < 3 → at < length page → code ≡ n → length page < at + lengthOf n
+  pub command-cut : (n : ℕ) → n < 4 → at < length page → code ≡ n → length page < at + lengthOf n
       → commandAt page at ≡ Fault 9
   unfolding commandAt
-  command-cut n k h e l = let known : n ≤ 2 = omega arith in simp (lt-leb _ _ h, e, le-ltb _ _ known, lt-ltb _ _ l)
+  command-cut n k h e l = let known : n ≤ 3 = omega arith in simp (lt-leb _ _ h, e, le-ltb _ _ known, lt-ltb _ _ l)
 
-  pub command-unknown : at < length page → 2 < code → commandAt page at ≡ Fault 8
+  pub command-unknown : at < length page → 3 < code → commandAt page at ≡ Fault 8
   unfolding commandAt
   command-unknown h l = simp (lt-leb _ _ h, lt-ltb _ _ l)

@@ -7,7 +7,7 @@ use Rattle.common.specs.Pick.{pick}
 use Rattle.image.specs.Bytes.{allZero}
 use Rattle.commands.specs.declared.Move.{Move}
 use Rattle.commands.specs.declared.Command.{Command}
-use Rattle.commands.specs.declared.Command.the-variants.{End, Station, MoveTo, Fault}
+use Rattle.commands.specs.declared.Command.the-variants.{End, Station, MoveTo, Limited, Fault}
 use Rattle.commands.specs.Commands.{commandAt}
 
 -- The first station from `from` on that the directory gives page p, or the number of stations.
@@ -30,19 +30,30 @@ judgeEnd size due rest = pick (ltb due size) (Fault 10) (pick (allZero rest) End
 unfoldable pub judgeStation : ℕ → ℕ → ℕ → Command
 judgeStation size due v = pick (leb size v) (Fault 10) (pick (eqb v due) (Station v) (Fault 10))
 
--- "for `02`: 11, 12, 13": before a station; target not below N, own station, or not rising; time 0
+-- "for `02`: 11, 12, 13": before a station; target not below N, own station, or not rising; time 0. 0 if none holds.
+unfoldable pub moveFault : ℕ → ℕ → ℕ → Move → ℕ
+moveFault size after least m =
+    pick (eqb after 0) 11
+    (pick (leb size (m .target)) 12
+    (pick (eqb (m .target + 1) after) 12
+    (pick (ltb (m .target) least) 12
+    (pick (eqb (m .time) 0) 13 0))))
+
 unfoldable pub judgeMove : ℕ → ℕ → ℕ → Move → Command
 judgeMove size after least m =
-    pick (eqb after 0) (Fault 11)
-    (pick (leb size (m .target)) (Fault 12)
-    (pick (eqb (m .target + 1) after) (Fault 12)
-    (pick (ltb (m .target) least) (Fault 12)
-    (pick (eqb (m .time) 0) (Fault 13) (MoveTo m)))))
+    let fault = moveFault size after least m in pick (ltb 0 fault) (Fault fault) (MoveTo m)
+
+-- C-11: `03` "under all rules of `02`"; "a limit of 0 with 18, tried after 13"
+unfoldable pub judgeLimited : ℕ → ℕ → ℕ → Move → Command
+judgeLimited size after least m =
+    let fault = moveFault size after least m in
+    pick (ltb 0 fault) (Fault fault) (pick (eqb (m .limit) 0) (Fault 18) (Limited m))
 
 unfoldable pub judge : ℕ → ℕ → ℕ → ℕ → List ℕ → Command → Command
 judge size due after least rest End = judgeEnd size due rest
 judge size due after least rest (Station v) = judgeStation size due v
 judge size due after least rest (MoveTo m) = judgeMove size after least m
+judge size due after least rest (Limited m) = judgeLimited size after least m
 judge size due after least rest (Fault number) = Fault number
 
 unfoldable pub judgedAt : List ℕ → ℕ → ℕ → ℕ → ℕ → ℕ → Command

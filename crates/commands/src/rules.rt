@@ -4,13 +4,13 @@ ghost use mathlib.Core.Path.{_≡_};
 ghost use Prim.Native.Nat.{ℕ, _≤_};
 ghost use lib.ListN.{length, drop};
 ghost use Rattle.layout.specs.Places.{Placed};
-ghost use Rattle.layout.specs.Due.{Due};
-ghost use Rattle.commands.specs.Rules.{judgeEnd, judgeStation, judgeMove, judgedAt, nextOn};
+ghost use Rattle.layout.specs.Due.{OnPage};
+ghost use Rattle.commands.specs.Rules.{judgeEnd, judgeStation, moveFault, judgeMove, judgeLimited};
+ghost use Rattle.commands.specs.Rules.{judgedAt, nextOn};
 use super::Command;
 use super::Move;
 use super::command_at;
 use image::bytes::zero_from;
-use layout::places::first_slot;
 use layout::places::slot_of;
 
 // For `00`: 10 if a station is still missing, that is if the slot that is due is below the next page's; then 14.
@@ -28,53 +28,80 @@ fn judge_end(page: &[u8], at: usize, past: usize, due: usize) -> Command
     }
 }
 
-// For `01`: 10. The next station is the one whose slot is due, if that is a slot of the page.
-fn judge_station(directory: &[u8], places: &[u16], p: u8, due: usize, v: u16) -> Command
+// For `01`: 10. The next station is the one whose slot is due, if that is a slot of the page, and so below the next
+// page's.
+fn judge_station(directory: &[u8], places: &[u16], past: usize, due: usize, v: usize) -> Command
     requires placed { ⌜ Placed (now directory) (now places) ⌝ }
-    ensures value { λ r. ⌜ ((after : ℕ) → Due (now (directory .entry)) (now (places .entry)) p after due
+    ensures value { λ r. ⌜ ((p after : ℕ) → OnPage (now (directory .entry)) (now (places .entry)) p past after due
         → r ≡ judgeStation (length (now (directory .entry))) (nextOn (now (directory .entry)) p after) v) ⌝ }
 {
-    if directory.len() <= v as usize {
+    if directory.len() <= v {
         return Command::Fault(10);
     }
-    if first_slot(places, p as usize + 1) <= due {
+    if past <= due {
         return Command::Fault(10);
     }
-    if slot_of(places, v as usize) == due {
+    if slot_of(places, v) == due {
         Command::Station(v)
     } else {
         Command::Fault(10)
     }
 }
 
-// For `02`: 11, 12, 13.
-fn judge_move(size: usize, after: usize, least: usize, m: Move) -> Command
-    ensures value { λ r. ⌜ r ≡ judgeMove size after least m ⌝ }
+// For `02` and `03`: 11, 12, 13; 0 for none of these.
+fn move_fault(size: usize, after: usize, least: usize, m: Move) -> u8
+    ensures value { λ r. ⌜ r ≡ moveFault size after least m ⌝ }
 {
     let target = m.target as usize;
     if after == 0 {
-        return Command::Fault(11);
+        return 11;
     }
     if size <= target {
-        return Command::Fault(12);
+        return 12;
     }
     if target + 1 == after {
-        return Command::Fault(12);
+        return 12;
     }
     if target < least {
-        return Command::Fault(12);
+        return 12;
     }
     if m.time == 0 {
-        return Command::Fault(13);
+        return 13;
+    }
+    0
+}
+
+// For `02`: these.
+fn judge_move(size: usize, after: usize, least: usize, m: Move) -> Command
+    ensures value { λ r. ⌜ r ≡ judgeMove size after least m ⌝ }
+{
+    let fault = move_fault(size, after, least, m);
+    if 0 < fault {
+        return Command::Fault(fault);
     }
     Command::MoveTo(m)
 }
 
-// The command at an offset, or the number of its fault.
+// For `03`: these, then 18.
+fn judge_limited(size: usize, after: usize, least: usize, m: Move) -> Command
+    ensures value { λ r. ⌜ r ≡ judgeLimited size after least m ⌝ }
+{
+    let limit = m.limit;
+    let first = move_fault(size, after, least, m);
+    if 0 < first {
+        return Command::Fault(first);
+    }
+    if limit == 0 {
+        return Command::Fault(18);
+    }
+    Command::Limited(m)
+}
+
+// The command at an offset, or the number of its fault, of whichever page the slots due and past are.
 pub fn judged_at(
     directory: &[u8],
     places: &[u16],
-    p: u8,
+    past: usize,
     page: &[u8],
     at: usize,
     due: usize,
@@ -83,14 +110,15 @@ pub fn judged_at(
 ) -> Command
     requires placed { ⌜ Placed (now directory) (now places) ⌝ }
     requires short { ⌜ length (now page) ≤ 256 ⌝ }
-    requires due { ⌜ Due (now directory) (now places) p after due ⌝ }
-    ensures value { λ r. ⌜ r ≡ judgedAt (now (page .entry)) at (length (now (directory .entry)))
-        (nextOn (now (directory .entry)) p after) after least ⌝ }
+    ensures value { λ r. ⌜ ((p : ℕ) → OnPage (now (directory .entry)) (now (places .entry)) p past after due
+        → r ≡ judgedAt (now (page .entry)) at (length (now (directory .entry)))
+        (nextOn (now (directory .entry)) p after) after least) ⌝ }
 {
     match command_at(page, at) {
-        Command::End => judge_end(page, at, first_slot(places, p as usize + 1), due),
-        Command::Station(v) => judge_station(directory, places, p, due, v),
+        Command::End => judge_end(page, at, past, due),
+        Command::Station(v) => judge_station(directory, places, past, due, v),
         Command::MoveTo(m) => judge_move(directory.len(), after, least, m),
+        Command::Limited(m) => judge_limited(directory.len(), after, least, m),
         Command::Fault(number) => Command::Fault(number),
     }
 }

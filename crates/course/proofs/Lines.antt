@@ -7,9 +7,11 @@ use Rattle.net.specs.Search.{workThrough, dfVisit, stepBy, searchBy, dfSearch}
 use Rattle.image.specs.Bytes.{allZero}
 use Rattle.image.specs.Image.{directoryOf, pageBytes, firstNotBelow, headingCheck}
 use Rattle.commands.specs.Commands.{commandAt}
-use Rattle.commands.specs.Rules.{firstOn, nextOn, judgeEnd, judgeStation, judgeMove, judge, judgedAt}
+use Rattle.commands.specs.Rules.{firstOn, nextOn, judgeEnd, judgeStation, moveFault, judgeMove, judgeLimited}
+use Rattle.commands.specs.Rules.{judge, judgedAt}
 use Rattle.page.specs.Reading.{readFrom, readPage, movesIn}
 use Rattle.page.specs.Check.{readingOf}
+use Rattle.page.specs.Open.{openTo}
 use Rattle.engine.specs.Map.{mapPage}
 use Rattle.search.specs.Reply.{callCheck, onMap, searched}
 use Rattle.text.specs.Text.{ascii, digits}
@@ -26,8 +28,8 @@ records =
 pub example : printed m7 records ≡ ascii "coil 7 length 8120 from 0 pages 3 reached 7\ncoil 8 refused 6\n"
 unfolding turnOf linesFrom ascii digits sourceWords acceptedLine refusalLine recordLine count least iter reached start
     choose chooseOn readFor relax relaxAll visit workTurn workThrough dfVisit stepBy searchBy dfSearch allZero
-    directoryOf pageBytes firstNotBelow headingCheck commandAt firstOn nextOn judgeEnd judgeStation judgeMove judge
-    judgedAt readFrom readPage readingOf movesIn mapPage callCheck onMap searched
+    directoryOf pageBytes firstNotBelow headingCheck commandAt firstOn nextOn judgeEnd judgeStation moveFault judgeMove
+    judgeLimited judge judgedAt readFrom readPage readingOf movesIn openTo mapPage callCheck onMap searched
 example = refl
 
 -- One byte left over behind the first record.

@@ -8,9 +8,11 @@ use Rattle.net.specs.Search.{plainVisit, dfVisit, stepBy, searchBy, plainSearch
 use Rattle.image.specs.Bytes.{allZero}
 use Rattle.image.specs.Image.{directoryOf, pageBytes, firstNotBelow, headingCheck}
 use Rattle.commands.specs.Commands.{commandAt}
-use Rattle.commands.specs.Rules.{firstOn, nextOn, judgeEnd, judgeStation, judgeMove, judge, judgedAt}
+use Rattle.commands.specs.Rules.{firstOn, nextOn, judgeEnd, judgeStation, moveFault, judgeMove, judgeLimited}
+use Rattle.commands.specs.Rules.{judge, judgedAt}
 use Rattle.page.specs.Reading.{readFrom, readPage, movesIn}
 use Rattle.page.specs.Check.{readingOf}
+use Rattle.page.specs.Open.{openTo}
 use Rattle.engine.specs.Map.{mapPage}
 use Rattle.search.specs.Reply.{callCheck, onMap, searched}
 use Rattle.route.specs.Route.{chain, outcome, routeCall}
@@ -22,8 +24,9 @@ Holds c = shown (c .question) (c .image) (c .source) ≡ c .answer
 table : map (λ (c : Case). shown (c .question) (c .image) (c .source)) cases ≡ map (λ (c : Case). c .answer) cases
 unfolding cases count changes onePageReads least iter reached start choose chooseOn readFor relax relaxAll visit
     workTurn workThrough plainVisit dfVisit stepBy searchBy plainSearch dfSearch allZero directoryOf
-    pageBytes firstNotBelow headingCheck commandAt firstOn nextOn judgeEnd judgeStation judgeMove judge
-    judgedAt readFrom readPage readingOf movesIn mapPage callCheck onMap searched chain outcome routeCall
+    pageBytes firstNotBelow headingCheck commandAt firstOn nextOn judgeEnd judgeStation moveFault judgeMove
+    judgeLimited judge judgedAt readFrom readPage readingOf movesIn openTo mapPage callCheck onMap searched chain
+    outcome routeCall
 table = refl
 
 by-rows : (rows : List Case)

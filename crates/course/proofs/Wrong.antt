@@ -2,7 +2,7 @@
 -- bytes.
 use Rattle.common.proofs.Ground.{_≡_, refl, ap, sym, _∙_, false, true≢false, List, [], _∷_, List·Memᴰ, List·Memᴰ·head}
 use Rattle.common.proofs.Ground.{List·Memᴰ·tail, Sublistᴰ, Sublistᴰ·cons, Sublistᴰ·cons-cons, Sublistᴰ·eq-nil, ℕ, _≤_}
-use Rattle.common.proofs.Ground.{_<_, arith}
+use Rattle.common.proofs.Ground.{_<_, arith, getD, take}
 use Rattle.common.specs.Numbers.{noTime}
 use Rattle.net.specs.Net.{isGood, Walk, here, onward, count, timesIn, movesTo, entersFrom, isEntry, entryStations}
 use Rattle.net.specs.Search.{least, iter, reached, start, choose, chooseOn, readFor, relax, relaxAll, visit}
@@ -12,33 +12,37 @@ use Rattle.image.specs.Bytes.{allZero}
 use Rattle.image.specs.Image.{accepted, refused, on-page}
 use Rattle.image.specs.Image.{AgreeOnDirectory, AgreeOnPage, directoryOf, pageBytes, firstNotBelow, headingCheck}
 use Rattle.commands.specs.Commands.{commandAt}
-use Rattle.commands.specs.Rules.{firstOn, nextOn, judgeEnd, judgeStation, judgeMove, judge, judgedAt}
+use Rattle.commands.specs.Rules.{firstOn, nextOn, judgeEnd, judgeStation, moveFault, judgeMove, judgeLimited}
+use Rattle.commands.specs.Rules.{judge, judgedAt}
 use Rattle.page.specs.Reading.{readFrom, readPage, movesIn}
 use Rattle.page.specs.Check.{readingOf}
+use Rattle.page.specs.Open.{openTo}
 use Rattle.engine.specs.Map.{mapFrame, mapPage}
-use Rattle.search.specs.Reply.{Handed, callCheck, onMap, searched, listOf}
+use Rattle.search.specs.Reply.{asked, Handed, callCheck, onMap, searched, listOf}
 use Rattle.search.specs.Promises.{SameLengths}
-use Rattle.course.specs.Cases.{m7, m7Bad, lentFor, ours, dijkstras}
+use Rattle.course.specs.Cases.{m7, m7Bad, lentFor, courseStrip, ours, dijkstras}
 use Rattle.course.specs.Wrong.{Wrong, Refused, wrongVersions, refusesAll, dijkstrasOwnList, pageLeftOut}
 use Rattle.course.specs.Wrong.{pageThatDijkstrasLacks, otherReachedCount, fixedAnswer, tablesUntouched, noneLeft}
-use Rattle.course.specs.Wrong.{merelySettles, badPageWithoutMoves}
+use Rattle.course.specs.Wrong.{merelySettles, badPageWithoutMoves, fasterWithLonger}
 
 -- What the definitions compute for M7 and for M7 with page 1 bad.
 record Computed : Type 0 where
-  to-1 : Walk (mapFrame m7) (mapPage m7) 0 1 4
-  to-2-through-4 : Walk (mapFrame m7) (mapPage m7) 0 2 3
-  to-4 : Walk (mapFrame m7Bad) (mapPage m7Bad) 0 4 2
-  page-1-is-bad : isGood (mapPage m7Bad 1) ≡ false
-  entries-of-page-0 : entryStations (mapFrame m7) (mapPage m7) 0 (0 ∷ 1 ∷ 0 ∷ 0 ∷ 0 ∷ 1 ∷ 1 ∷ []) 0 ≡ 2
+  to-1 : Walk (mapFrame m7) (mapPage courseStrip m7) 0 1 4
+  to-2-through-4 : Walk (mapFrame m7) (mapPage courseStrip m7) 0 2 3
+  to-4 : Walk (mapFrame m7Bad) (mapPage courseStrip m7Bad) 0 4 2
+  page-1-is-bad : isGood (mapPage courseStrip m7Bad 1) ≡ false
+  entries-of-page-0 : entryStations (mapFrame m7) (mapPage courseStrip m7) 0 (0 ∷ 1 ∷ 0 ∷ 0 ∷ 0 ∷ 1 ∷ 1 ∷ []) 0 ≡ 2
   outcome : (ours m7 0) .reply .outcome ≡ accepted
   outcome-if-bad : (ours m7Bad 0) .reply .outcome ≡ refused 8 (on-page 1 0)
   dijkstras-list-from-6 : listOf (dijkstras m7 6) ≡ 1 ∷ []
+  shorter : (searched dfSearch (asked m7 0 0) (lentFor m7)) .reply .outcome ≡ accepted
+  shorter-time : getD (take 7 ((searched dfSearch (asked m7 0 0) (lentFor m7)) .tables .times)) 6 noTime ≡ 9
 
 computed : Computed
 unfolding count timesIn movesTo entersFrom isEntry entryStations least iter reached start choose chooseOn readFor relax
     relaxAll visit workTurn workThrough plainVisit dfVisit stepBy searchBy plainSearch dfSearch allZero directoryOf
-    pageBytes firstNotBelow headingCheck commandAt firstOn nextOn judgeEnd judgeStation judgeMove judge judgedAt
-    readFrom readPage readingOf movesIn mapPage callCheck onMap searched
+    pageBytes firstNotBelow headingCheck commandAt firstOn nextOn judgeEnd judgeStation moveFault judgeMove judgeLimited
+    judge judgedAt readFrom readPage readingOf movesIn openTo mapPage callCheck onMap searched
 computed = record {
   to-1 = onward 1 4 here (List·Memᴰ·head refl);
   to-2-through-4 = onward 2 1 (onward 4 2 here (List·Memᴰ·tail (List·Memᴰ·head refl))) (List·Memᴰ·head refl);
@@ -48,6 +52,8 @@ computed = record {
   outcome = refl;
   outcome-if-bad = refl;
   dijkstras-list-from-6 = refl;
+  shorter = refl;
+  shorter-time = refl;
 }
 
 -- the tables lent to both searches are the same
@@ -64,7 +70,7 @@ refuses-all says =
 dijkstras-own-list : Refused dijkstrasOwnList
 unfolding timesIn
 dijkstras-own-list says =
-    let often : 4 ≤ entryStations (mapFrame m7) (mapPage m7) 0 (0 ∷ 1 ∷ 0 ∷ 0 ∷ 0 ∷ 1 ∷ 1 ∷ []) 0 =
+    let often : 4 ≤ entryStations (mapFrame m7) (mapPage courseStrip m7) 0 (0 ∷ 1 ∷ 0 ∷ 0 ∷ 0 ∷ 1 ∷ 1 ∷ []) 0 =
     says refl (lentFor m7) same-lengths .lists .often 0 in
     omega (arith, computed .entries-of-page-0)
 
@@ -122,6 +128,13 @@ unfolding directoryOf
 bad-page-without-moves says =
     true≢false (sym (says refl .pages-good 4 2 (computed .to-4)) ∙ computed .page-1-is-bad)
 
+-- with a strip of length 0 the time of station 6 is 9
+faster-with-longer : Refused fasterWithLonger
+faster-with-longer says =
+    let z : getD (take 7 ((searched dfSearch (asked m7 0 0) (lentFor m7)) .tables .times)) 6 noTime ≤ 8 =
+    says refl 0 (lentFor m7) (omega arith) (computed .shorter) 6 in
+    omega (arith, computed .shorter-time)
+
 -- All of them, by the table.
 infixr 5 _then_
 data AllRefused : List Wrong → Type 0 where
@@ -132,7 +145,8 @@ all-refused : AllRefused wrongVersions
 unfolding wrongVersions
 all-refused =
     refuses-all then dijkstras-own-list then page-left-out then page-that-dijkstras-lacks then other-reached-count then
-    fixed-answer then tables-untouched then none-left then merely-settles then bad-page-without-moves then no-more
+    fixed-answer then tables-untouched then none-left then merely-settles then bad-page-without-moves then
+    faster-with-longer then no-more
 
 by-rows : (rows : List Wrong) → AllRefused rows → (w : Wrong) → List·Memᴰ w rows → Refused w
 by-rows (r ∷ rows) (one then others) w (List·Memᴰ·head e) = rw e one

@@ -1,5 +1,5 @@
 -- The course maps as images, byte by byte, and the ten cases as a table: a map, a source and a question, and the
--- answer of document 01.
+-- answer of document 01. No map has a limit, and the strip is as long as that of document 01's records.
 use mathlib.Core.List.{List, [], _∷_, _++_}
 use Prim.Native.Nat.{ℕ}
 use lib.ListN.{getD, set, take, replicate}
@@ -12,12 +12,12 @@ use Rattle.route.specs.Route as route
 use Rattle.route.specs.Route.{stations, unreached, turnedDown, routeCall}
 
 -- A page of 256 bytes that begins so.
-abbrev paged : List ℕ → List ℕ
+abbrev pub paged : List ℕ → List ℕ
 paged bytes = take 256 (bytes ++ replicate 256 0)
 
 -- "M7: stations 0 to 3 on page 0, 4 to 6 on page 1; from-target/time: 0-1/4, 0-4/2, 1-2/3, 2-3/3, 3-5/3, 4-2/1,
 -- 4-5/6, 5-6/1."
-abbrev m7Heading : List ℕ
+abbrev pub m7Heading : List ℕ
 m7Heading = 7 ∷ 0 ∷ 2 ∷ 0 ∷ 0 ∷ 0 ∷ 0 ∷ 0 ∷ 1 ∷ 1 ∷ 1 ∷ []
 
 abbrev m7First : List ℕ
@@ -27,7 +27,7 @@ m7First =
     1 ∷ 2 ∷ 0 ∷ 2 ∷ 3 ∷ 0 ∷ 3 ∷ 0 ∷
     1 ∷ 3 ∷ 0 ∷ 2 ∷ 5 ∷ 0 ∷ 3 ∷ 0 ∷ []
 
-abbrev m7Second : List ℕ
+abbrev pub m7Second : List ℕ
 m7Second =
     1 ∷ 4 ∷ 0 ∷ 2 ∷ 2 ∷ 0 ∷ 1 ∷ 0 ∷ 2 ∷ 5 ∷ 0 ∷ 6 ∷ 0 ∷
     1 ∷ 5 ∷ 0 ∷ 2 ∷ 6 ∷ 0 ∷ 1 ∷ 0 ∷
@@ -71,15 +71,19 @@ pub record Case : Type 0 where
   pub question : Question
   pub answer : List ℕ
 
--- Tables of as many entries as the map has stations; and what either search hands back for them.
+-- Tables of as many entries as the map has stations; the strip's length in decimetres; and what either search hands
+-- back.
 abbrev pub lentFor : List ℕ → Lent
 lentFor image = let nines : List ℕ = replicate (stationCount image) 9 in lent nines nines nines nines
 
+abbrev pub courseStrip : ℕ
+courseStrip = 8120
+
 abbrev pub ours : List ℕ → ℕ → Handed
-ours image source = searched dfSearch (asked image source) (lentFor image)
+ours image source = searched dfSearch (asked image source courseStrip) (lentFor image)
 
 abbrev pub dijkstras : List ℕ → ℕ → Handed
-dijkstras image source = searched plainSearch (asked image source) (lentFor image)
+dijkstras image source = searched plainSearch (asked image source courseStrip) (lentFor image)
 
 abbrev placeNumbers : Place → List ℕ
 placeNumbers nowhere = []

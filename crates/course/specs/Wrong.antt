@@ -8,12 +8,12 @@ use Rattle.common.specs.Numbers.{noTime, sourceMark, noPred}
 use Rattle.net.specs.Search.{dfSearch}
 use Rattle.image.specs.Image.{accepted, refused, nowhere}
 use Rattle.search.specs.Reply.{asked, reply, Handed, handed, lent}
-use Rattle.search.specs.Promises.{TimesAreLeast, ListAgainstDijkstra, SameOnListedPages}
-use Rattle.course.specs.Cases.{m7, m7Bad, lentFor, ours}
+use Rattle.search.specs.Promises.{TimesAreLeast, ListAgainstDijkstra, SameOnListedPages, NoLessThanShorter}
+use Rattle.course.specs.Cases.{m7, m7Bad, lentFor, courseStrip, ours}
 
 -- The parts of what `df` promises (search/specs/Promises.antt), by their names.
 pub data Clause : Type 0 where
-  outcome times list images : Clause
+  outcome times list images lengths : Clause
 
 pub record Wrong : Type 0 where
   pub image : List ℕ
@@ -24,9 +24,10 @@ pub record Wrong : Type 0 where
 -- What a clause says of an outcome.
 abbrev pub Says : Clause → List ℕ → ℕ → Handed → Type 0
 Says outcome image source h = h ≡ ours image source
-Says times image source h = TimesAreLeast (asked image source) h
-Says list image source h = ListAgainstDijkstra (asked image source) (lentFor image) h
-Says images image source h = SameOnListedPages (asked image source) dfSearch (lentFor image) h
+Says times image source h = TimesAreLeast (asked image source courseStrip) h
+Says list image source h = ListAgainstDijkstra (asked image source courseStrip) (lentFor image) h
+Says images image source h = SameOnListedPages (asked image source courseStrip) dfSearch (lentFor image) h
+Says lengths image source h = NoLessThanShorter (asked image source courseStrip) dfSearch h
 
 abbrev pub Refused : Wrong → Type 0
 Refused w = Says (w .clause) (w .image) (w .source) (w .handed) → ⊥
@@ -103,7 +104,11 @@ merelySettles = wrong m7 0 (back 1 6 page0Times page0Preds (listed (0 ∷ []))) 
 abbrev pub badPageWithoutMoves : Wrong
 badPageWithoutMoves = wrong m7Bad 0 (back 2 6 page0Times page0Preds (listed (0 ∷ 1 ∷ []))) times
 
+-- One that is faster with a longer strip, against C-11: station 6 has 9 with a shorter one.
+abbrev pub fasterWithLonger : Wrong
+fasterWithLonger = wrong m7 0 (back 3 7 (0 ∷ 4 ∷ 3 ∷ 6 ∷ 2 ∷ 8 ∷ 8 ∷ []) c1Preds (listed (0 ∷ 1 ∷ 0 ∷ []))) lengths
+
 unfoldable pub wrongVersions : List Wrong
 wrongVersions =
     refusesAll ∷ dijkstrasOwnList ∷ pageLeftOut ∷ pageThatDijkstrasLacks ∷ otherReachedCount ∷ fixedAnswer ∷
-    tablesUntouched ∷ noneLeft ∷ merelySettles ∷ badPageWithoutMoves ∷ []
+    tablesUntouched ∷ noneLeft ∷ merelySettles ∷ badPageWithoutMoves ∷ fasterWithLonger ∷ []

@@ -125,7 +125,7 @@ module _ (query : Query) (image : List ℕ) (bytes : Bytes image) (well : headin
   placing =
       let f = formed image well in
       record {
-        sound = image-sound image bytes well (query .source) inside;
+        sound = image-sound (query .strip) image bytes well (query .source) inside;
         placed = placed;
         few = omega arith;
         bytes = bytes-directory image bytes;
@@ -141,7 +141,7 @@ module _ (query : Query) (image : List ℕ) (bytes : Bytes image) (well : headin
 
   pub begun-image : {list : List ℕ} {m : Memory} → Relaxed places 0 (query .source) 0 before m
       → length (directoryOf image) ≤ length list
-      → Underway (serving query image) image 0 places (replicate 17152 0) m list
+      → Underway query image 0 places (replicate 17152 0) m list
   begun-image r room = record {
     formed = well;
     known = record {

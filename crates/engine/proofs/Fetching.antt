@@ -8,15 +8,16 @@ use Rattle.page.specs.Check.{readingOf, verdictOf}
 use Rattle.page.specs.Laying.{PageLaid, OthersKept}
 use Rattle.engine.specs.Standing.{PageKnown, Known, Fetched}
 
-pub read-fetched : {image layout after : List ℕ} {p : ℕ} {r : Verdict} → Known image layout → length after ≡ 17152
-    → r ≡ verdictOf (readingOf image p)
+pub read-fetched : {image layout after : List ℕ} {strip p : ℕ} {r : Verdict} → Known strip image layout
+    → length after ≡ 17152 → r ≡ verdictOf (readingOf image p)
     → ((moves : List Move) (stations : List Leaving) → readingOf image p ≡ good moves stations
-    → PageLaid (directoryOf image) p stations after)
-    → OthersKept (directoryOf image) p layout after → Fetched image p after r
-read-fetched {image} {layout} {after} {p} known size e laid others = rw e (by-reading (readingOf image p) refl)
+    → PageLaid (directoryOf image) p strip stations after)
+    → OthersKept (directoryOf image) p layout after → Fetched strip image p after r
+read-fetched {image} {layout} {after} {strip} {p} known size e laid others = rw e (by-reading (readingOf image p) refl)
   where
-    known-other : (v : ℕ) → getD (directoryOf image) v 0 ≢ p → PageKnown image (getD (directoryOf image) v 0) layout
-        → PageKnown image (getD (directoryOf image) v 0) after
+    known-other : (v : ℕ) → getD (directoryOf image) v 0 ≢ p
+        → PageKnown strip image (getD (directoryOf image) v 0) layout
+        → PageKnown strip image (getD (directoryOf image) v 0) after
     known-other v n page = record {
       moves = page .moves;
       stations = page .stations;
@@ -24,10 +25,10 @@ read-fetched {image} {layout} {after} {p} known size e laid others = rw e (by-re
       laid = λ u h on. others .rows u _ _ h on n (page .laid u h on);
     }
 
-    by-reading : (r : Reading) → readingOf image p ≡ r → Fetched image p after (verdictOf r)
+    by-reading : (r : Reading) → readingOf image p ≡ r → Fetched strip image p after (verdictOf r)
     by-reading (bad number offset) e = e
     by-reading (good moves stations) e =
-        let new : PageKnown image p after =
+        let new : PageKnown strip image p after =
         record { moves = moves; stations = stations; reads = e; laid = laid moves stations e } in (
           record {
             size = size;

@@ -1,6 +1,7 @@
 pub mod Board
 pub mod Choosing
 pub mod Turning
+pub mod Offered
 pub mod Soundness
 pub mod Fetching
 pub mod Referring

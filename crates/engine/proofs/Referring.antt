@@ -11,6 +11,7 @@ use Rattle.net.proofs.Steps.Waiting.{first-lowest}
 use Rattle.net.proofs.Runs.{reference-inside, reference-listed, reference-bad, hand-begins}
 use Rattle.commands.specs.declared.Move.{Move}
 use Rattle.page.specs.Reading.{movesIn, bad}
+use Rattle.page.specs.Open.{openTo}
 use Rattle.page.specs.Laying.{rowFor}
 use Rattle.page.specs.Check.{readingOf}
 use Rattle.layout.specs.Places.{pageAt}
@@ -62,9 +63,13 @@ module _ {q : Serving} {k key : ℕ} {places : List ℕ} {m : Memory} (s : Stand
       }
 
 -- The rows of a page's moves are those of the net's.
-same-rows : (moves : List Move) → rowFor moves ≡ rowsOf (map netMove moves)
-same-rows [] = refl
-same-rows (m ∷ moves) = ap (λ rest. entryOf (m .time) (m .target) ∷ rest) (same-rows moves)
+same-entries : (moves : List Move)
+    → map (λ (m : Move). entryOf (m .time) (m .target)) moves ≡ rowsOf (map netMove moves)
+same-entries [] = refl
+same-entries (m ∷ moves) = ap (λ rest. entryOf (m .time) (m .target) ∷ rest) (same-entries moves)
+
+same-rows : (strip : ℕ) (moves : List Move) → rowFor strip moves ≡ rowsOf (map netMove (openTo strip moves))
+same-rows strip moves = same-entries (openTo strip moves)
 
 -- Its page is listed; a good one is taken in hand, and a bad one ends the search.
 pub lists : {q : Serving} {k key u p : ℕ} {places : List ℕ} {m : Memory} → Next q k places m key u p → {before : List ℕ}
@@ -77,17 +82,18 @@ lists {q} {k} n = record {
 
 module _ (query : Query) (image : List ℕ) {k key u p : ℕ} {places : List ℕ} {m : Memory}
     (n : Next (serving query image) k places m key u p) where
-  pub hand-image : {layout : List ℕ} {turns : ℕ} → Known image layout × PageKnown image p layout
+  pub hand-image : {layout : List ℕ} {turns : ℕ}
+      → Known (query .strip) image layout × PageKnown (query .strip) image p layout
       → turns ≡ turnLimit (query .df) (mapFrame image) → Hand (serving query image) k p places layout turns key m
   unfolding mapPage
   hand-image {layout} (known, laid) limit =
-      let moves : ℕ → List NetMove = λ v. map netMove (movesIn (laid .stations) v) in
+      let moves : ℕ → List NetMove = λ v. map netMove (openTo (query .strip) (movesIn (laid .stations) v)) in
       record {
         moves = moves;
         turns = 0;
         state = withPage p (stateAfter (serving query image) k);
         in-hand = rw (n .on) at (hand-begins (n .stands .board .placing .sound) (query .df) k (n .first) moves
-            (rw (n .on) (ap offered (laid .reads))));
+            (rw (n .on) (ap (offered (query .strip)) (laid .reads))));
         count = omega arith;
         size = known .size;
         page = n .below;
@@ -102,4 +108,4 @@ module _ (query : Query) (image : List ℕ) {k key u p : ℕ} {places : List ℕ
   refused-image {number} {offset} e =
       let ok = n .stands .board .placing .sound in
       rw (n .on) at (ap (λ t. t .halt) (reference-bad ok (query .df) k (n .first) number offset
-      (rw (n .on) (ap offered e))))
+      (rw (n .on) (ap (offered (query .strip)) e))))

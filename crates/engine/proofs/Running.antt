@@ -20,19 +20,19 @@ use Rattle.engine.specs.Standing.{serving, Underway, Lists, Referred}
 use Rattle.engine.specs.Ending.{Listed, EndedAs, EndedOn}
 
 -- After k references, with the list as it was before the first of them.
-pub record RunSoFar (q : Serving) (image : List ℕ) (k : ℕ) (places layout : List ℕ) (m : Memory) (before list : List ℕ)
-    : Type 0 where
-  pub underway : Underway q image k places layout m list
-  pub listed : Listed (stateAfter q k) before list k
+pub record RunSoFar (query : Query) (image : List ℕ) (k : ℕ) (places layout : List ℕ) (m : Memory)
+    (before list : List ℕ) : Type 0 where
+  pub underway : Underway query image k places layout m list
+  pub listed : Listed (stateAfter (serving query image) k) before list k
   pub few : k ≤ 2048
 
-pub run-start : {q : Serving} {image places layout list : List ℕ} {m : Memory}
-    → Underway q image 0 places layout m list → RunSoFar q image 0 places layout m list list
+pub run-start : {query : Query} {image places layout list : List ℕ} {m : Memory}
+    → Underway query image 0 places layout m list → RunSoFar query image 0 places layout m list list
 unfolding iter start
 run-start u = record { underway = u; listed = (refl, refl); few = omega arith }
 
 module _ (query : Query) {k : ℕ} {image places layout before list : List ℕ} {m : Memory}
-    (g : RunSoFar (serving query image) image k places layout m before list) where
+    (g : RunSoFar query image k places layout m before list) where
   abbrev q : Serving
   q = serving query image
 
@@ -52,8 +52,8 @@ module _ (query : Query) {k : ℕ} {image places layout before list : List ℕ} 
       )
 
   pub run-more : {p : ℕ} {layout′ list′ : List ℕ} {m′ : Memory}
-      → Referred q image k places layout′ m′ list list′ (Made p)
-      → RunSoFar q image (k + 1) places layout′ m′ before list′
+      → Referred query image k places layout′ m′ list list′ (Made p)
+      → RunSoFar query image (k + 1) places layout′ m′ before list′
   run-more (stands, known, next) = rw (add-one k) (record {
     underway = record {
       formed = g .underway .formed;
@@ -72,14 +72,14 @@ module _ (query : Query) {k : ℕ} {image places layout before list : List ℕ} 
       let ok = g .underway .stands .board .placing .sound in
       ap unmarked (run-stops ok (q .df) j none) ∙ sym (run-is-search ok (q .df))
 
-  pub nobody-ends : {list′ : List ℕ} {m′ : Memory} → Referred q image k places layout m′ list list′ NobodyWaits
+  pub nobody-ends : {list′ : List ℕ} {m′ : Memory} → Referred query image k places layout m′ list list′ NobodyWaits
       → EndedOn query image (m′ .cells) before list′ (Over k)
   nobody-ends {list′} {m′} (none, stands, same) =
       subst (λ t. EndedAs F (q .source) t (m′ .cells) before list′ (Over k)) (ended k none)
       (stands .going, (g .listed .0, same ∙ g .listed .1), λ v h. stands .board .station v h .0)
 
   pub bad-ends : (cells : List ℕ) {number p offset : ℕ} {list′ : List ℕ}
-      → Referred q image k places layout m list list′ (Bad number p offset)
+      → Referred query image k places layout m list list′ (Bad number p offset)
       → EndedOn query image cells before list′ (BadPage number p offset (k + 1))
   bad-ends cells {number} {p} {offset} {list′} (halted, next) = rw (add-one k)
       (subst (λ t. EndedAs F (q .source) t cells before list′ (BadPage number p offset (suc k)))

@@ -12,7 +12,9 @@ use Rattle.page.specs.Check.{readingOf}
 use Rattle.page.specs.Good.{GoodMoves}
 use Rattle.image.proofs.Heading.{formed}
 use Rattle.page.proofs.Good.Moves.{image-moves-good}
+use Rattle.page.proofs.Open.{open-to-0}
 use Rattle.engine.specs.Map.{mapFrame, netMove, offered, mapPage}
+use Rattle.engine.proofs.Offered.{offers-shorter}
 
 weighs : (n own least v w : ℕ) (moves : List Move) → GoodMoves n own least moves
     → List·Memᴰ (record { target = v; weight = w }) (map netMove moves) → (0 < w) × (w ≤ 65535) × (v < n)
@@ -24,21 +26,23 @@ weighs n own least v w (x ∷ moves) g m =
     here e =
         let t : v ≡ x .target = ap (λ (k : NetMove). k .target) e in
         let d : w ≡ x .time = ap (λ (k : NetMove). k .weight) e in
-        (omega (arith, g .0 .timed), omega (arith, g .0 .fits), omega (arith, g .0 .below))
+        (omega (arith, g .0 .timed), omega (arith, g .0 .time-fits), omega (arith, g .0 .below))
 
-module _ (image : List ℕ) (bytes : Bytes image) where
+module _ (strip : ℕ) (image : List ℕ) (bytes : Bytes image) where
   goes-good : (u v w p : ℕ) (r : Reading) → readingOf image p ≡ r
-      → List·Memᴰ (record { target = v; weight = w }) (movesOf (offered r) u)
+      → List·Memᴰ (record { target = v; weight = w }) (movesOf (offered strip r) u)
       → (0 < w) × (w ≤ 65535) × (v < length (directoryOf image))
-  goes-good u v w p (good moves stations) e m = weighs (length (directoryOf image)) u 0 v w (movesIn stations u)
-      (image-moves-good image bytes p moves stations e u) m
+  goes-good u v w p (good moves stations) e m =
+      let own = movesIn stations u in
+      weighs (length (directoryOf image)) u 0 v w own (image-moves-good image bytes p moves stations e u)
+      (rw (open-to-0 own) at (offers-shorter {shorter = 0} {strip = strip} (omega arith) (good moves stations) u m))
   goes-good u v w p (bad number offset) e m = absurd (List·Memᴰ·not-nil m)
 
   pub image-sound : headingCheck image ≡ accepted → (source : ℕ) → source < length (directoryOf image)
-      → Sound (mapFrame image) (mapPage image) source
+      → Sound (mapFrame image) (mapPage strip image) source
   unfolding mapPage
   image-sound h source s =
       let f = formed image h in
-      map-sound (mapFrame image) (mapPage image) source (omega (arith, f .directory, f .stations-most)) refl s
+      map-sound (mapFrame image) (mapPage strip image) source (omega (arith, f .directory, f .stations-most)) refl s
       (λ u v w g.
       goes-good u v w (getD (directoryOf image) u 0) (readingOf image (getD (directoryOf image) u 0)) refl g)

@@ -32,4 +32,4 @@ EndedAs F source s cells before list (BadPage number p offset count) =
 abbrev pub EndedOn : Query → List ℕ → List ℕ → List ℕ → List ℕ → Ended → Type 0
 EndedOn query image =
     EndedAs (mapFrame image) (query .source)
-    (searchOf (query .df) (mapFrame image) (mapPage image) (query .source))
+    (searchOf (query .df) (mapFrame image) (mapPage (query .strip) image) (query .source))

@@ -1,4 +1,5 @@
--- A map image as a net: its stations and pages by the heading and the directory, and what reading a page offers.
+-- A map image as a net: its stations and pages by the heading and the directory, and what reading a page offers to a
+-- strip of a length.
 use mathlib.Core.List.{List, map}
 use Prim.Native.Nat.{ℕ}
 use lib.ListN.{length, getD}
@@ -10,6 +11,7 @@ use Rattle.image.specs.Image.{directoryOf}
 use Rattle.page.specs.Reading.{Reading, movesIn}
 use Rattle.page.specs.Reading.{good as read-good, bad as read-bad}
 use Rattle.page.specs.Check.{readingOf}
+use Rattle.page.specs.Open.{openTo}
 
 -- What a search knows of a map before it reads a page: N and the page of each station, by the directory.
 abbrev pub frame : List ℕ → Frame
@@ -22,10 +24,10 @@ mapFrame image = frame (directoryOf image)
 abbrev pub netMove : Move → NetMove
 netMove m = record { target = m .target; weight = m .time }
 
--- A good page offers the moves of its content; a bad one gives its refusal.
-abbrev pub offered : Reading → Page
-offered (read-good moves stations) = good (λ u. map netMove (movesIn stations u))
-offered (read-bad number offset) = bad number offset
+-- A good page offers the moves of its content that are open to the strip; a bad one gives its refusal.
+abbrev pub offered : ℕ → Reading → Page
+offered strip (read-good moves stations) = good (λ u. map netMove (openTo strip (movesIn stations u)))
+offered strip (read-bad number offset) = bad number offset
 
-unfoldable pub mapPage : List ℕ → ℕ → Page
-mapPage image p = offered (readingOf image p)
+unfoldable pub mapPage : ℕ → List ℕ → ℕ → Page
+mapPage strip image p = offered strip (readingOf image p)

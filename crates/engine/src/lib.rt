@@ -7,10 +7,11 @@ mod pages;
 pub mod run;
 mod work;
 
-// What a search is asked: DF or plain, and from where.
+// What a search is asked: DF or plain, from where, and for a strip of which length, in decimetres.
 pub struct Query {
     pub df: bool,
     pub source: u16,
+    pub strip: u16,
 }
 
 // What a reference came to: nobody was waiting, a page was referred to and worked on, or it was bad.

@@ -9,7 +9,7 @@ ghost use Rattle.relax.specs.Cells.{memory};
 ghost use Rattle.net.specs.Run.{turnLimit};
 ghost use Rattle.engine.specs.Map.{mapFrame};
 ghost use Rattle.engine.specs.Ending.{EndedOn};
-ghost use Rattle.engine.specs.Standing.{serving, Underway, Referred};
+ghost use Rattle.engine.specs.Standing.{Underway, Referred};
 use super::Ended;
 use super::Query;
 use super::Reference;
@@ -54,10 +54,9 @@ fn refer(
     queue: &mut [u64],
     list: &mut [u8],
 ) -> Reference
-    requires underway { ⌜ Underway (serving query (now image)) (now image) count (now places)
+    requires underway { ⌜ Underway query (now image) count (now places)
         (now layout) (memory (now cells) (now waiting) (now queue)) (now list) ⌝ }
-    ensures referred { λ r. ⌜ Referred (serving query (now (image .entry))) (now (image .entry))
-        count (now (places .entry))
+    ensures referred { λ r. ⌜ Referred query (now (image .entry)) count (now (places .entry))
         (now (layout .exit)) (memory (now (cells .exit)) (now (waiting .exit)) (now (queue .exit)))
         (now (list .entry)) (now (list .exit)) r ⌝ }
 {
@@ -69,7 +68,7 @@ fn refer(
     let p = page_at(places, u);
     let page = p as u8;
     list[count] = page;
-    match fetch(image, page, u, places, layout) {
+    match fetch(image, page, u, places, query.strip, layout) {
         Verdict::Good => {
             let turns = turns_of(query.df, image);
             work_page(p, turns, key, places, layout, cells, waiting, queue);
@@ -95,7 +94,7 @@ fn run(
     queue: &mut [u64],
     list: &mut [u8],
 ) -> Ended
-    requires begun { ⌜ Underway (serving query (now image)) (now image) 0 (now places)
+    requires begun { ⌜ Underway query (now image) 0 (now places)
         (now layout) (memory (now cells) (now waiting) (now queue)) (now list) ⌝ }
     ensures ended { λ r. ⌜
         EndedOn query (now (image .entry)) (now (cells .exit)) (now (list .entry)) (now (list .exit)) r ⌝ }

@@ -12,7 +12,7 @@ module _ (layout : List ℕ) (i x : ℕ) where
       ap (λ (j : ℕ). drop from (set layout j x)) e ∙ drop-set-add from layout (i - from) x
 
   -- what stands between two indexes stays, if the write is outside
-  between-kept : (from to : ℕ) → (from ≤ i → to ≤ i)
+  pub between-kept : (from to : ℕ) → (from ≤ i → to ≤ i)
       → take (to - from) (drop from (set layout i x)) ≡ take (to - from) (drop from layout)
   between-kept from to outside =
       dite (decLt i from)

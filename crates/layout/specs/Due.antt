@@ -12,6 +12,12 @@ pub record Due (directory places : List ℕ) (p after due : ℕ) : Type 0 where
   pub behind : (v : ℕ) → v < length directory → getD directory v 0 ≡ p → v < after → slotOf places v < due
   pub ahead : (v : ℕ) → v < length directory → getD directory v 0 ≡ p → after ≤ v → due ≤ slotOf places v
 
+-- It is due on page p, and `past` is the first slot of the page behind.
+pub record OnPage (directory places : List ℕ) (p past after due : ℕ) : Type 0 where
+  pub page : p < 256
+  pub ends : past ≡ firstSlot places (p + 1)
+  pub slot : Due directory places p after due
+
 -- Station v is the first from `after` on that the directory gives page p.
 pub record Next (directory : List ℕ) (p after v : ℕ) : Type 0 where
   pub station : v < length directory

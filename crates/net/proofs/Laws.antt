@@ -1,10 +1,12 @@
 -- The laws of both searches, for every net whose moves weigh at least 1 and lead to stations, and any source in it.
 -- Each is stated of the searches by the letter of document 01; the proofs are in the other files, for the one
 -- comparison, and are carried over here by the first laws.
-use Rattle.common.proofs.Ground.{_≡_, refl, sym, _∙_, ap, List, [], _∷_, _++_, Sublistᴰ, ℕ, _+_, _*_, _≤_, _<_, arith}
-use Rattle.common.proofs.Ground.{mul-le-mul, length, getD, ltb, eqb}
+use Rattle.common.proofs.Ground.{_≡_, refl, sym, _∙_, ap, ⊎-elim, List, [], _∷_, _++_, Sublistᴰ, ℕ, _+_, _*_, _≤_, _<_}
+use Rattle.common.proofs.Ground.{arith, mul-le-mul, length, getD, ltb, eqb}
+use Rattle.common.proofs.Cases.{le-or-lt}
 use Rattle.net.specs.declared.Choice.the-variants.{Station, Nobody}
-use Rattle.net.specs.Net.{Move, Page, good, Frame, Goes, timesIn, entryStations, onePageReads, count}
+use Rattle.net.specs.Net.{Move, Page, good, Frame, Goes, Walk, here, onward, timesIn, entryStations}
+use Rattle.net.specs.Net.{onePageReads, count}
 use Rattle.net.specs.Search.{State, going, refused, timeOf, predOf, isSettled, isFresh, settle, withPage, start}
 use Rattle.net.specs.Search.{reached}
 use Rattle.net.specs.Search.{choose, chooseOn, iter, visit, workTurn, workThrough, plainVisit, dfVisit}
@@ -240,6 +242,24 @@ map-sound F page source few none inside fits = record {
   source-in = inside;
   room = no-sum-reaches-none F 65535 few (omega arith) none;
 }
+
+-- Fewer moves: where every move of one net is a move of another, no station has a lesser time in the first.
+module _ (F : Frame) (page fewer : ℕ → Page) (source : ℕ)
+    (among : (u v w : ℕ) → Goes F fewer u v w → Goes F page u v w) where
+  walk-among : {v c : ℕ} → Walk F fewer source v c → Walk F page source v c
+  walk-among here = here
+  walk-among (onward {u = u} v w walk goes) = onward v w (walk-among walk) (among u v w goes)
+
+  pub fewer-moves-no-less : {times preds later others : List ℕ} {r s : ℕ} → LeastTimes F page source times preds r
+      → LeastTimes F fewer source later others s → (v : ℕ) → getD times v (F .none) ≤ getD later v (F .none)
+  fewer-moves-no-less {times} {later = later} all few v =
+      ⊎-elim
+      (λ none.
+      let is = few .untimed v none in
+      ⊎-elim (λ also. omega (arith, is .0, all .untimed v also .0)) (λ has. omega (arith, is .0))
+      (le-or-lt (F .none) (getD times v (F .none))))
+      (λ has. all .least v (getD later v (F .none)) (walk-among (few .walk v has)))
+      (le-or-lt (F .none) (getD later v (F .none)))
 
 -- Locality: two nets that agree on the pages listed by the first one's search get the same result in every part,
 -- accepted or refused. For any nets.

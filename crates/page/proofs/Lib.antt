@@ -4,6 +4,8 @@
 pub mod Reading
 pub mod Agree
 pub mod Good
+-- Which moves are open to a strip.
+pub mod Open
 -- The whole check; how large the numbers of a refusal can be.
 pub mod Pages
 pub mod Offsets

@@ -32,7 +32,7 @@ page-in directory p page limit short =
     (λ at after least number h. h)
     (λ at after least j h. tt)
     (λ at after least v j r k h. after-station limit v r (k (omega arith)))
-    (λ at after least m j r k h. after-move limit m r (k (omega arith)))
+    (λ at after least code m j r k h. after-move limit m r (k (omega (arith, j .0 .ends))))
     (suc (length page)) 0 0 0 (omega arith)
 
 -- An outcome whose offset, if it names one, is 256 at most.

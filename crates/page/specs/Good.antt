@@ -16,13 +16,15 @@ stationsFrom p i (d ∷ ds) = let rest = stationsFrom p (suc i) ds in pick (eqb 
 abbrev pub stationsOn : List ℕ → ℕ → List ℕ
 stationsOn directory p = stationsFrom p 0 directory
 
--- "Targets of one station rise strictly, are below N and differ from the station itself"; "time .. 1 to 65,535"
+-- "Targets of one station rise strictly, are below N and differ from the station itself"; "time .. 1 to 65,535". C-11:
+-- a limit is 1 to 65,535 too, and 0 where there is none.
 pub record GoodMove (size own least : ℕ) (m : Move) : Type 0 where
   pub rising : least ≤ m .target
   pub below : m .target < size
   pub other : m .target ≡ own → ⊥
   pub timed : 0 < m .time
-  pub fits : m .time < 65536
+  pub time-fits : m .time < 65536
+  pub limit-fits : m .limit < 65536
 
 abbrev pub GoodMoves : ℕ → ℕ → ℕ → List Move → Type 0
 GoodMoves size own least [] = Unit {0}
@@ -40,9 +42,16 @@ pub record GoodContent (directory : List ℕ) (p : ℕ) (stations : List Leaving
   pub named : names stations ≡ stationsOn directory p
   pub fine : GoodStations (length directory) stations
 
--- The bytes that a content spells.
+-- The bytes that a content spells. A move is spelled as `02` if it has no limit, and as `03` if it has one.
+abbrev pub codeOf : Move → ℕ
+codeOf m = pick (eqb (m .limit) 0) 2 3
+
+abbrev pub spellLimit : ℕ → List ℕ → List ℕ
+spellLimit limit rest = pick (eqb limit 0) rest (limit % 256 ∷ limit / 256 ∷ rest)
+
 abbrev pub spellMove : Move → List ℕ → List ℕ
-spellMove m rest = 2 ∷ m .target % 256 ∷ m .target / 256 ∷ m .time % 256 ∷ m .time / 256 ∷ rest
+spellMove m rest =
+    codeOf m ∷ m .target % 256 ∷ m .target / 256 ∷ m .time % 256 ∷ m .time / 256 ∷ spellLimit (m .limit) rest
 
 unfoldable pub spellMoves : List Move → List ℕ → List ℕ
 spellMoves [] rest = rest

@@ -1,4 +1,5 @@
 pub mod Reading
 pub mod Check
 pub mod Good
+pub mod Open
 pub mod Laying

@@ -5,7 +5,7 @@ use lib.ListN.{length}
 use lib.Dec.{eqb}
 use Rattle.common.specs.Pick.{pick}
 use Rattle.commands.specs.declared.Move.{Move}
-use Rattle.commands.specs.declared.Command.the-variants.{End, Station, MoveTo, Fault}
+use Rattle.commands.specs.declared.Command.the-variants.{End, Station, MoveTo, Limited, Fault}
 use Rattle.commands.specs.Commands.{widthOf}
 use Rattle.commands.specs.Rules.{nextOn, judgedAt}
 
@@ -38,6 +38,7 @@ module _ (directory : List ℕ) (p : ℕ) (page : List ℕ) where
         | End ↦ good [] []
         | Station v ↦ withStation v (readFrom commands (at + widthOf (Station v)) (v + 1) 0)
         | MoveTo m ↦ withMove m (readFrom commands (at + widthOf (MoveTo m)) after (m .target + 1))
+        | Limited m ↦ withMove m (readFrom commands (at + widthOf (Limited m)) after (m .target + 1))
         | Fault number ↦ bad number at
       ]
 

@@ -1,18 +1,21 @@
-// The page reader: a page is good, or has a first command at fault; and while it is read, the moves of its stations are
-// laid out as rows.
+// The page reader: a page is good, or has a first command at fault; and while it is read, the moves of its stations
+// that are open to a strip of a given length are laid out as rows.
 
 ghost use mathlib.Core.Path.{_≡_};
 ghost use mathlib.Core.List.{List};
 ghost use Prim.Native.Nat.{_+_, _≤_, _<_};
 ghost use lib.ListN.{length, set};
+ghost use lib.Dec.{leb};
 ghost use Rattle.layout.specs.Places.{Placed};
 ghost use Rattle.layout.specs.Rows.{entryOf};
 ghost use Rattle.commands.specs.declared.Move.{Move};
 ghost use Rattle.page.specs.Reading.{Leaving, good, readPage};
 ghost use Rattle.page.specs.Check.{verdictOf};
+ghost use Rattle.common.specs.Pick.{pick};
 ghost use Rattle.page.specs.Laying.{PageLaid, OthersKept};
 use super::Verdict;
 use commands::Command;
+use commands::LIMITED;
 use commands::MOVE;
 use commands::Move;
 use commands::STATION;
@@ -34,8 +37,21 @@ fn begin_row(layout: &mut [u32], v: usize, k: usize)
     layout[END_FROM + v] = k as u32;
 }
 
+// A move as an entry of a row.
+fn entry_of(m: Move) -> u32
+    ensures value { λ r. ⌜ r ≡ entryOf (m .time) (m .target) ⌝ }
+{
+    m.time as u32 * (STATIONS as u32) + m.target as u32
+}
+
+// The least target that rises behind a move.
+fn least_behind(m: Move) -> usize
+    ensures value { λ r. ⌜ r ≡ m .target + 1 ⌝ }
+{
+    m.target as usize + 1
+}
+
 // Lays out a move of station v at entry k, behind the moves that its row has, and gives the entry for the next one.
-// Which moves are laid out is decided here and nowhere else.
 fn lay_move(layout: &mut [u32], v: usize, k: usize, m: Move) -> usize
     requires station { ⌜ 2048 + v < length (now layout) ⌝ }
     requires inside { ⌜ k < length (now layout) ⌝ }
@@ -44,19 +60,48 @@ fn lay_move(layout: &mut [u32], v: usize, k: usize, m: Move) -> usize
     ensures laid { λ _. ⌜ now (layout .exit)
         ≡ set (set (now (layout .entry)) k (entryOf (m .time) (m .target))) (2048 + v) (k + 1) ⌝ }
 {
-    layout[k] = m.time as u32 * (STATIONS as u32) + m.target as u32;
+    layout[k] = entry_of(m);
     layout[END_FROM + v] = k as u32 + 1;
     k + 1
 }
 
+// The entry behind that of a move with a limit: the next one if the limit is not below the strip's length, by which the
+// move is open, and else its own.
+fn behind_limited(k: usize, strip: u16, m: Move) -> usize
+    requires entry { ⌜ k < 65536 ⌝ }
+    ensures value { λ r. ⌜ r ≡ pick (leb strip (m .limit)) (k + 1) k ⌝ }
+{
+    if strip <= m.limit {
+        return k + 1;
+    }
+    k
+}
+
+// Lays out a move with a limit likewise, if it is open to the strip. A closed one is written too, but its row ends
+// before it, and the next move or row takes its entry: so nothing has to wait for the comparison.
+fn lay_limited(layout: &mut [u32], v: usize, k: usize, strip: u16, m: Move) -> usize
+    requires station { ⌜ 2048 + v < length (now layout) ⌝ }
+    requires inside { ⌜ k < length (now layout) ⌝ }
+    requires entry { ⌜ k < 65536 ⌝ }
+    ensures next { λ r. ⌜ r ≡ pick (leb strip (m .limit)) (k + 1) k ⌝ }
+    ensures laid { λ _. ⌜ now (layout .exit) ≡ set (set (now (layout .entry)) k (entryOf (m .time) (m .target)))
+        (2048 + v) (pick (leb strip (m .limit)) (k + 1) k) ⌝ }
+{
+    let behind = behind_limited(k, strip, m);
+    layout[k] = entry_of(m);
+    layout[END_FROM + v] = behind as u32;
+    behind
+}
+
 // Reads page p: good, or the number and the offset of the first command at fault. Each station that is named begins a
-// row, and its moves are laid out there as they are read; the rows stand one behind the other in the page's own room.
-// The stations are placed, so that the one that is due is known by its slot.
+// row, and its moves that are open to the strip are laid out there as they are read; the rows stand one behind the
+// other in the page's own room. The stations are placed, so that the one that is due is known by its slot.
 pub fn read_page(
     directory: &[u8],
     places: &[u16],
     p: u8,
     page: &[u8],
+    strip: u16,
     layout: &mut [u32],
 ) -> Verdict
     requires placed { ⌜ Placed (now directory) (now places) ⌝ }
@@ -65,9 +110,10 @@ pub fn read_page(
     ensures verdict { λ r. ⌜ r ≡ verdictOf (readPage (now (directory .entry)) p (now (page .entry))) ⌝ }
     ensures laid { λ _. ⌜ ((moves : List Move) (stations : List Leaving)
         → readPage (now (directory .entry)) p (now (page .entry)) ≡ good moves stations
-        → PageLaid (now (directory .entry)) p stations (now (layout .exit))) ⌝ }
+        → PageLaid (now (directory .entry)) p strip stations (now (layout .exit))) ⌝ }
     ensures others { λ _. ⌜ OthersKept (now (directory .entry)) p (now (layout .entry)) (now (layout .exit)) ⌝ }
 {
+    let past = first_slot(places, p as usize + 1);
     let mut due = first_slot(places, p as usize);
     let mut at: usize = 0;
     let mut after: usize = 0;
@@ -76,13 +122,18 @@ pub fn read_page(
     let mut k = ROOM_FROM + PAGE_MOVES * (p as usize);
     let offset = 'page: loop {
         let station = loop {
-            match judged_at(directory, places, p, page, at, due, after, least) {
+            match judged_at(directory, places, past, page, at, due, after, least) {
                 Command::MoveTo(m) => {
                     k = lay_move(layout, after - 1, k, m);
-                    least = m.target as usize + 1;
+                    least = least_behind(m);
                     at += length_of(MOVE);
                 }
-                Command::Station(v) => break v as usize,
+                Command::Limited(m) => {
+                    k = lay_limited(layout, after - 1, k, strip, m);
+                    least = least_behind(m);
+                    at += length_of(LIMITED);
+                }
+                Command::Station(v) => break v,
                 Command::End => return Verdict::Good,
                 Command::Fault(fault) => {
                     number = fault;

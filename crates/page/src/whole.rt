@@ -23,21 +23,29 @@ use layout::moves::LAYOUT;
 use layout::places::PLACES;
 use layout::places::place;
 
-// Reads page p of an image whose stations are placed (reader.rt).
-pub fn read_page_of(image: &[u8], p: u8, places: &[u16], layout: &mut [u32]) -> Verdict
+// Reads page p of an image whose stations are placed, for a strip of a given length (reader.rt).
+pub fn read_page_of(image: &[u8], p: u8, places: &[u16], strip: u16, layout: &mut [u32]) -> Verdict
     requires placed { ⌜ Placed (directoryOf (now image)) (now places) ⌝ }
     requires table { ⌜ length (now layout) ≡ 17152 ⌝ }
     ensures verdict { λ r. ⌜ r ≡ verdictOf (readingOf (now (image .entry)) p) ⌝ }
     ensures laid { λ _. ⌜ ((moves : List Move) (stations : List Leaving)
         → readingOf (now (image .entry)) p ≡ good moves stations
-        → PageLaid (directoryOf (now (image .entry))) p stations (now (layout .exit))) ⌝ }
+        → PageLaid (directoryOf (now (image .entry))) p strip stations (now (layout .exit))) ⌝ }
     ensures others { λ _. ⌜
         OthersKept (directoryOf (now (image .entry))) p (now (layout .entry)) (now (layout .exit)) ⌝ }
 {
-    read_page(directory_of(image), places, p, page_of(image, p), layout)
+    read_page(
+        directory_of(image),
+        places,
+        p,
+        page_of(image, p),
+        strip,
+        layout,
+    )
 }
 
-// The pages' own check. The rows that the reader lays out are not used.
+// The pages' own check: every move is judged, whatever its limit. The rows that the reader lays out are not used, so
+// that any strip will do.
 fn check_pages(image: &[u8]) -> Checked
     requires { ⌜ (stationCount (now image) ≤ 2048) × (pageCount (now image) ≤ 240) ⌝ }
     ensures outcome { λ r. ⌜ outcomeOf r ≡ pagesFrom (now (image .entry)) (pageCount (now (image .entry))) 0 ⌝ }
@@ -49,7 +57,7 @@ fn check_pages(image: &[u8]) -> Checked
     let mut p: usize = 0;
     while p < pages {
         let page = p as u8;
-        match read_page_of(image, page, &places, &mut layout) {
+        match read_page_of(image, page, &places, 0, &mut layout) {
             Verdict::Good => {}
             Verdict::Bad { number, offset } => return refuse(
                 number,

@@ -13,6 +13,9 @@ ghost use Rattle.layout.specs.Places.{Placed};
 // A part of an answer that the refusal doesn't name.
 const UNNAMED: usize = 65535;
 
+// The longest strip, in decimetres: nearly every move with a limit is closed to it, and is judged all the same.
+const LONGEST_STRIP: u16 = 65535;
+
 // A refusal's number, 0 where all is good, and its place.
 pub struct Answer {
     pub number: usize,
@@ -77,12 +80,19 @@ pub fn of_image(image: &[u8]) -> Answer {
     of_check(page::whole::check(image))
 }
 
-// What the page reader answers for a page of an image.
+// What the page reader answers for a page of an image and the longest strip.
 pub fn of_page(image: &[u8], directory: &[u8], places: &[u16], p: u8) -> Answer
     requires { ⌜ Placed (now directory) (now places) ⌝ }
 {
     let mut layout = [0u32; LAYOUT];
-    match read_page(directory, places, p, page_of(image, p), &mut layout) {
+    match read_page(
+        directory,
+        places,
+        p,
+        page_of(image, p),
+        LONGEST_STRIP,
+        &mut layout,
+    ) {
         Verdict::Good => plain(0),
         Verdict::Bad { number, offset } => {
             Answer {

@@ -2,7 +2,8 @@
 -- page, or its map is a sound net and the laws of the net speak of it. The tables' first N entries are those of the
 -- net's search, and the list's first entries its page list.
 use Rattle.common.proofs.Ground.{_≡_, refl, ap, sym, _∙_, Bool, true, false, List, List·Memᴰ, ℕ}
-use Rattle.common.proofs.Ground.{arith, length, take}
+use Rattle.common.proofs.Ground.{_≤_, arith, length, take, getD}
+use Rattle.common.specs.Numbers.{noTime}
 use Rattle.common.specs.Window.{placed}
 use Rattle.common.proofs.Cases.{never}
 use Rattle.common.proofs.Windows.{placed-window}
@@ -10,17 +11,18 @@ use Rattle.net.specs.Net.{Frame}
 use Rattle.net.specs.Search as net
 use Rattle.net.specs.Search.{State, Halt, going, reached, plainSearch, dfSearch}
 use Rattle.net.specs.Run.{searchOf}
-use Rattle.net.proofs.Laws.{same-halt, same-tables, same-reached, df-list}
+use Rattle.net.proofs.Laws.{same-halt, same-tables, same-reached, df-list, fewer-moves-no-less}
 use Rattle.image.specs.Bytes.{Bytes}
 use Rattle.image.specs.Image.{Outcome, accepted, refused, on-page, stationCount}
 use Rattle.image.specs.Image.{AgreeOnHeading, AgreeOnDirectory, AgreeOnPage}
 use Rattle.image.proofs.Agree.{stations-agree, heading-agrees}
 use Rattle.page.proofs.Agree.{reading-agrees}
 use Rattle.engine.specs.Map.{frame, offered, mapPage}
-use Rattle.search.specs.Reply.{Query, withImage, frameOf, pagesOf, Lent, Handed, reply, ended, tooShort}
-use Rattle.search.specs.Reply.{callCheck, onMap, afterCheck, searched, listOf}
+use Rattle.engine.proofs.Offered.{goes-shorter}
+use Rattle.search.specs.Reply.{Query, withImage, withStrip, frameOf, pagesOf, Lent, Handed, reply, ended}
+use Rattle.search.specs.Reply.{tooShort, callCheck, onMap, afterCheck, searched, listOf}
 use Rattle.search.specs.Promises.{SameLengths, firsts, TimesAreLeast, PageIsFirstBad}
-use Rattle.search.specs.Promises.{ListAgainstDijkstra, Promised, DfPromised}
+use Rattle.search.specs.Promises.{ListAgainstDijkstra, NoLessThanShorter, Promised, DfPromised}
 use Rattle.search.proofs.Checking.{Admitted, Decided, turned-down, passed, decided, passes}
 use Rattle.search.proofs.Searches.{found, local-of, size-of, sound-of, least-of, refused-of}
 
@@ -114,9 +116,9 @@ module _ (df : Bool) (q : Query) (t : Lent) (other : List ℕ) (lengths : length
       → onMap (searchOf df) q t ≡ onMap (searchOf df) (withImage other q) t
   unfolding onMap mapPage
   on-map-agrees agree =
-      let same = local-of df (frameOf q) (pagesOf q) (mapPage other) (q .source)
-      (λ p m. ap offered (reading-agrees (q .image) other p directory (agree p m))) in
-      let search : Frame → State = λ G. searchOf df G (mapPage other) (q .source) in
+      let same = local-of df (frameOf q) (pagesOf q) (mapPage (q .strip) other) (q .source)
+      (λ p m. ap (offered (q .strip)) (reading-agrees (q .image) other p directory (agree p m))) in
+      let search : Frame → State = λ G. searchOf df G (mapPage (q .strip) other) (q .source) in
       ap (λ (s : State). ended (s .halt) (frameOf q) s t) same ∙
       ap (λ d. ended ((search (frame d)) .halt) (frame d) (search (frame d)) t) directory
 
@@ -134,6 +136,26 @@ module _ (df : Bool) (q : Query) (t : Lent) (other : List ℕ) (lengths : length
   images-agree agree =
       by-check (callCheck q t) agree ∙ ap (afterCheck (searchOf df) (withImage other q) t) check-agrees
 
+-- C-11, two lengths: what is offered to the longer strip is offered to the shorter one too
+no-less-on-map : (df : Bool) (q : Query) (t : Lent) (a : Admitted q t) (bytes : Bytes (q .image)) (strip : ℕ)
+    → strip ≤ q .strip → (other : Lent) → Admitted (withStrip strip q) other
+    → (onMap (searchOf df) q t) .reply .outcome ≡ accepted
+    → (onMap (searchOf df) (withStrip strip q) other) .reply .outcome ≡ accepted → (v : ℕ)
+    → getD (firsts q ((onMap (searchOf df) (withStrip strip q) other) .tables .times)) v noTime
+    ≤ getD (firsts q ((onMap (searchOf df) q t) .tables .times)) v noTime
+no-less-on-map df q t a bytes strip less other a′ e e′ v =
+    let short = withStrip strip q in
+    let g = over-on-map q t a bytes df e in
+    let g′ = over-on-map short other a′ bytes df e′ in
+    rw (
+      accepted-as q t a bytes df t g,
+      accepted-as short other a′ bytes df other g′,
+      fronts q t a bytes df t g .0,
+      fronts short other a′ bytes df other g′ .0,
+    )
+    (fewer-moves-no-less (frameOf q) (pagesOf short) (pagesOf q) (q .source) (goes-shorter (q .image) less)
+    (least-of short other a′ bytes df g′) (least-of q t a bytes df g) v)
+
 -- All promises, by what 1 to 7 decide.
 module _ (q : Query) (t : Lent) (bytes : Bytes (q .image)) where
   either-search : (df : Bool) (o : Outcome) → Decided q t o
@@ -143,6 +165,22 @@ module _ (q : Query) (t : Lent) (bytes : Bytes (q .image)) where
     λ n p at e. let same : place ≡ on-page p at = cc in absurd (rw same at k),
   )
   either-search df o (passed a) = (least-on-map q t a bytes df, refused-on-map q t a bytes df)
+
+  no-less : (df : Bool) (o : Outcome) → Decided q t o
+      → NoLessThanShorter q (searchOf df) (afterCheck (searchOf df) q t o)
+  unfolding searched
+  no-less df o (turned-down number place k) e strip other less = never (cc)
+  no-less df o (passed a) e strip other less = by-check (callCheck short other) (decided short other)
+    where
+      short : Query
+      short = withStrip strip q
+
+      by-check : (d : Outcome) → Decided short other d
+          → (afterCheck (searchOf df) short other d) .reply .outcome ≡ accepted → (v : ℕ)
+          → getD (firsts q ((afterCheck (searchOf df) short other d) .tables .times)) v noTime
+          ≤ getD (firsts q ((onMap (searchOf df) q t) .tables .times)) v noTime
+      by-check d (turned-down number place k) e′ = never (cc)
+      by-check d (passed a′) e′ = no-less-on-map df q t a bytes strip less other a′ e e′
 
   list-of : (o : Outcome) → Decided q t o → ListAgainstDijkstra q t (afterCheck dfSearch q t o)
   list-of o (turned-down number place k) e = never (cc)
@@ -155,6 +193,7 @@ module _ (q : Query) (t : Lent) (bytes : Bytes (q .image)) where
     times = either-search df (callCheck q t) (decided q t) .0;
     refused = either-search df (callCheck q t) (decided q t) .1;
     images = images-agree df q t;
+    lengths = no-less df (callCheck q t) (decided q t);
   })
 
   pub df-promised-of : (h : Handed) → h ≡ searched dfSearch q t → DfPromised q t h

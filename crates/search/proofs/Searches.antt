@@ -32,7 +32,7 @@ module _ (q : Query) where
 
     module _ (bytes : Bytes (q .image)) where
       pub sound-of : Sound (frameOf q) (pagesOf q) (q .source)
-      sound-of = image-sound (q .image) bytes (a .heading) (q .source) (rw size-of (a .inside))
+      sound-of = image-sound (q .strip) (q .image) bytes (a .heading) (q .source) (rw size-of (a .inside))
 
       pub least-of : (df : Bool) → (found df) .halt ≡ going
           → LeastTimes (frameOf q) (pagesOf q) (q .source) ((found df) .times) ((found df) .preds)

@@ -10,7 +10,7 @@ use Rattle.search.specs.Reply.{Query, asked, Reply, reply}
 
 -- What the code's query asks of an image; the flag, which search it is, is not part of it.
 abbrev pub askedBy : engine.Query → List ℕ → Query
-askedBy query image = asked image (query .source)
+askedBy query image = asked image (query .source) (query .strip)
 
 abbrev pub isOver : Ended → Bool
 isOver (Over count) = true

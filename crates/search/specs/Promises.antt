@@ -1,13 +1,16 @@
 -- What a search promises of what it hands back: the equation, and demands 2 and 3, which speak of walks, lists and
--- images and not of the steps of a search.
+-- images and not of the steps of a search. C-11: walks, entry stations and lists "are those of the moves open to that
+-- length", which are what `pagesOf` offers.
 use mathlib.Core.Path.{_≡_}
 use mathlib.Core.List.{List, [], _∷_, _++_, List·Memᴰ}
-use Prim.Native.Nat.{ℕ}
-use lib.ListN.{length, take}
+use Prim.Native.Nat.{ℕ, _≤_}
+use lib.ListN.{length, take, getD}
+use Rattle.common.specs.Numbers.{noTime}
 use Rattle.net.specs.Search.{plainSearch, dfSearch}
 use Rattle.net.specs.Demands.{LeastTimes, RefusedPage, ListOf}
 use Rattle.image.specs.Image.{accepted, refused, on-page, stationCount, AgreeOnHeading, AgreeOnDirectory, AgreeOnPage}
-use Rattle.search.specs.Reply.{Query, withImage, frameOf, pagesOf, NetSearch, Lent, Handed, searched, listOf}
+use Rattle.search.specs.Reply.{Query, withImage, withStrip, frameOf, pagesOf, NetSearch, Lent, Handed}
+use Rattle.search.specs.Reply.{searched, listOf}
 
 -- Tables of the same lengths.
 pub record SameLengths (t other : Lent) : Type 0 where
@@ -46,19 +49,29 @@ module _ (q : Query) where
     pub lists : ListOf (frameOf q) (pagesOf q) (q .source) (listOf ours) (listOf dijkstras)
 
   -- Demand 3: our list against Dijkstra's, which is that of the plain search "called on the same image and source with
-  -- tables of the same lengths".
+  -- tables of the same lengths"; C-11: and "the same strip length".
   abbrev pub ListAgainstDijkstra : Lent → Handed → Type 0
   ListAgainstDijkstra t h =
       h .reply .outcome ≡ accepted → (other : Lent) → SameLengths t other
       → AgainstDijkstra h (searched plainSearch q other)
 
   -- "every image of the same length, heading and directory that agrees with the first on all listed pages gets, for the
-  -- same source and lent tables, the same answer, tables and list, whatever its other pages hold"
+  -- same source and lent tables, the same answer, tables and list, whatever its other pages hold"; C-11: and "the same
+  -- strip length"
   abbrev pub SameOnListedPages : NetSearch → Lent → Handed → Type 0
   SameOnListedPages search t h =
       (other : List ℕ) → length (q .image) ≡ length other → AgreeOnHeading (q .image) other
       → AgreeOnDirectory (q .image) other → ((p : ℕ) → List·Memᴰ p (listOf h) → AgreeOnPage p (q .image) other)
       → h ≡ searched search (withImage other q) t
+
+  -- C-11: "For two lengths on one map from one source, both accepted, the longer never has a lesser time": this search,
+  -- against every shorter length and all tables for which the same search accepts too. None is above all.
+  abbrev pub NoLessThanShorter : NetSearch → Handed → Type 0
+  NoLessThanShorter search h =
+      h .reply .outcome ≡ accepted → (strip : ℕ) (other : Lent) → strip ≤ q .strip
+      → let shorter = searched search (withStrip strip q) other in
+      shorter .reply .outcome ≡ accepted
+      → (v : ℕ) → getD (firsts (shorter .tables .times)) v noTime ≤ getD (firsts (h .tables .times)) v noTime
 
 -- All that a search promises for tables lent, of what it hands back; the DF search also demand 3's list.
 pub record Promised (search : NetSearch) (q : Query) (t : Lent) (h : Handed) : Type 0 where
@@ -66,6 +79,7 @@ pub record Promised (search : NetSearch) (q : Query) (t : Lent) (h : Handed) : T
   pub times : TimesAreLeast q h
   pub refused : PageIsFirstBad q h
   pub images : SameOnListedPages q search t h
+  pub lengths : NoLessThanShorter q search h
 
 pub record DfPromised (q : Query) (t : Lent) (h : Handed) : Type 0 where
   pub promised : Promised dfSearch q t h

@@ -17,23 +17,29 @@ use Rattle.engine.specs.Map.{mapFrame, mapPage}
 use Rattle.search.specs.declared.Answer.{Answer}
 use Rattle.search.specs.declared.Answer.the-variants.{Accepted, Refused}
 
--- "Each takes image, source": what a search is asked; and the same of another image.
+-- "Each takes image, source"; C-11: "Searches take a length", that of a strip. What a search is asked; and the same of
+-- another image, or for another length.
 pub record Query : Type 0 where
   pub image : List ℕ
   pub source : ℕ
+  pub strip : ℕ
 
-abbrev pub asked : List ℕ → ℕ → Query
-asked image source = record { image = image; source = source }
+abbrev pub asked : List ℕ → ℕ → ℕ → Query
+asked image source strip = record { image = image; source = source; strip = strip }
 
 abbrev pub withImage : List ℕ → Query → Query
-withImage image q = asked image (q .source)
+withImage image q = asked image (q .source) (q .strip)
 
--- The map that is searched as a net: its frame, and what its pages offer; and a search of the net, plain or DF.
+abbrev pub withStrip : ℕ → Query → Query
+withStrip strip q = asked (q .image) (q .source) strip
+
+-- The map that is searched as a net: its frame, and what its pages offer to the strip; and a search of a net, plain or
+-- DF.
 abbrev pub frameOf : Query → Frame
 frameOf q = mapFrame (q .image)
 
 abbrev pub pagesOf : Query → ℕ → Page
-pagesOf q = mapPage (q .image)
+pagesOf q = mapPage (q .strip) (q .image)
 
 abbrev pub NetSearch : Type 0
 NetSearch = Frame → (ℕ → Page) → ℕ → State

@@ -1,6 +1,7 @@
-// The two public searches. Each takes an image, a source and four lent tables: times, predecessors, marks and page
-// list, with an entry for each station at least. What they promise is one record (specs/Promises.antt): the whole
-// outcome, refusals too (specs/Reply.antt), and demands 2 and 3.
+// The two public searches. Each takes an image, a source, the length of a strip in decimetres and four lent tables:
+// times, predecessors, marks and page list, with an entry for each station at least. What they promise is one record
+// (specs/Promises.antt): the whole outcome, refusals too (specs/Reply.antt), demands 2 and 3, and that a longer strip
+// is no faster.
 
 ghost use mathlib.Core.Path.{_≡_};
 ghost use mathlib.Core.Bool.{not, _||_};
@@ -142,18 +143,23 @@ fn search(
 pub fn plain(
     image: &[u8],
     source: u16,
+    strip: u16,
     times: &mut [u32],
     preds: &mut [u16],
     marks: &mut [u8],
     list: &mut [u8],
 ) -> Answer
     ensures promised { λ r. ⌜
-        Promised plainSearch (asked (now (image .entry)) source)
+        Promised plainSearch (asked (now (image .entry)) source strip)
         (lent (now (times .entry)) (now (preds .entry)) (now (marks .entry)) (now (list .entry)))
         (returned r (now (times .exit)) (now (preds .exit)) (now (marks .exit)) (now (list .exit))) ⌝ }
 {
     search(
-        Query { df: false, source },
+        Query {
+            df: false,
+            source,
+            strip,
+        },
         image,
         times,
         preds,
@@ -166,15 +172,27 @@ pub fn plain(
 pub fn df(
     image: &[u8],
     source: u16,
+    strip: u16,
     times: &mut [u32],
     preds: &mut [u16],
     marks: &mut [u8],
     list: &mut [u8],
 ) -> Answer
     ensures promised { λ r. ⌜
-        DfPromised (asked (now (image .entry)) source)
+        DfPromised (asked (now (image .entry)) source strip)
         (lent (now (times .entry)) (now (preds .entry)) (now (marks .entry)) (now (list .entry)))
         (returned r (now (times .exit)) (now (preds .exit)) (now (marks .exit)) (now (list .exit))) ⌝ }
 {
-    search(Query { df: true, source }, image, times, preds, marks, list)
+    search(
+        Query {
+            df: true,
+            source,
+            strip,
+        },
+        image,
+        times,
+        preds,
+        marks,
+        list,
+    )
 }

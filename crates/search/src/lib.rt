@@ -8,7 +8,7 @@ pub mod calls;
 use image::Refusal;
 
 // What a search answers: the number of entries of the page list, with the number of stations reached or the refusal. At
-// 1 to 7 the list has no entry; at 8 to 14 the bad page is its last.
+// 1 to 7 the list has no entry; at a page refusal the bad page is its last.
 pub enum Answer {
     Accepted { count: usize, reached: usize },
     Refused { refusal: Refusal, count: usize },

@@ -3,9 +3,10 @@
 // the text that this program must print.
 //
 // The input is a row of maps, all numbers little-endian. A map is the label's length (u8), the number of its calls
-// (u16), the image's length (u32), the label, the image, and the calls. A call is the source and the lengths of times,
-// predecessors, marks and page list (five u16), the number of changes (u8), and the changes: an offset (u32) and the
-// byte that the image has there from this call on. A call runs the plain search and then the DF search.
+// (u16), the image's length (u32), the label, the image, and the calls. A call is the source, the strip's length and
+// the lengths of times, predecessors, marks and page list (six u16), the number of changes (u8), and the changes: an
+// offset (u32) and the byte that the image has there from this call on. A call runs the plain search and then the DF
+// search.
 
 mod answers;
 mod tables;
@@ -64,15 +65,16 @@ fn searched(
     df: bool,
     image: &[u8],
     source: u16,
+    strip: u16,
     times: &mut [u32],
     preds: &mut [u16],
     marks: &mut [u8],
     list: &mut [u8],
 ) -> Answer {
     if df {
-        return search::calls::df(image, source, times, preds, marks, list);
+        return search::calls::df(image, source, strip, times, preds, marks, list);
     }
-    search::calls::plain(image, source, times, preds, marks, list)
+    search::calls::plain(image, source, strip, times, preds, marks, list)
 }
 
 fn print_search(df: bool) {
@@ -88,6 +90,7 @@ fn run_search(
     df: bool,
     image: &[u8],
     source: u16,
+    strip: u16,
     times: &mut [u32],
     preds: &mut [u16],
     marks: &mut [u8],
@@ -95,16 +98,17 @@ fn run_search(
 ) {
     fill(times, preds, marks, list);
     print_search(df);
-    print_answer(searched(df, image, source, times, preds, marks, list));
+    print_answer(searched(df, image, source, strip, times, preds, marks, list));
     print_tables(times, preds, marks, list);
 }
 
 fn print_call(call: &[u8]) {
     print_number(b" from ", word_at(call, 0) as u64);
-    print_number(b", tables ", word_at(call, 2) as u64);
-    print_number(b" ", word_at(call, 4) as u64);
+    print_number(b", strip ", word_at(call, 2) as u64);
+    print_number(b", tables ", word_at(call, 4) as u64);
     print_number(b" ", word_at(call, 6) as u64);
     print_number(b" ", word_at(call, 8) as u64);
+    print_number(b" ", word_at(call, 10) as u64);
     io::write_all(STDOUT_FILENO, b"\n");
 }
 
@@ -112,13 +116,14 @@ fn print_call(call: &[u8]) {
 fn run_lent(
     image: &[u8],
     source: u16,
+    strip: u16,
     times: &mut [u32],
     preds: &mut [u16],
     marks: &mut [u8],
     list: &mut [u8],
 ) {
-    run_search(false, image, source, times, preds, marks, list);
-    run_search(true, image, source, times, preds, marks, list);
+    run_search(false, image, source, strip, times, preds, marks, list);
+    run_search(true, image, source, strip, times, preds, marks, list);
 }
 
 // A length that a call asks for, as far as there is room.
@@ -137,13 +142,14 @@ fn run_tables(image: &[u8], call: &[u8]) {
     let mut preds = [0u16; ENTRIES];
     let mut marks = [0u8; ENTRIES];
     let mut list = [0u8; ENTRIES];
-    let t = within(word_at(call, 2));
-    let p = within(word_at(call, 4));
-    let m = within(word_at(call, 6));
-    let l = within(word_at(call, 8));
+    let t = within(word_at(call, 4));
+    let p = within(word_at(call, 6));
+    let m = within(word_at(call, 8));
+    let l = within(word_at(call, 10));
     run_lent(
         image,
         word_at(call, 0),
+        word_at(call, 2),
         &mut times[..t],
         &mut preds[..p],
         &mut marks[..m],
@@ -153,10 +159,10 @@ fn run_tables(image: &[u8], call: &[u8]) {
 
 // Reads one call and runs it.
 fn run_call(image: &mut [u8]) {
-    let mut call = [0u8; 11];
+    let mut call = [0u8; 13];
     io::read_full(STDIN_FILENO, &mut call);
     print_call(&call);
-    change_bytes(image, call[10]);
+    change_bytes(image, call[12]);
     run_tables(image, &call);
 }
 

@@ -48,13 +48,15 @@ small-place number (at-station station) k = no-numbers number station
 small-place number (on-page p offset) k = absurd k
 
 -- a page that is bad was read to a fault
-offered-by : (r : Reading) (number offset : ℕ) → offered r ≡ bad number offset → FaultBy 256 r → offset ≤ 256
-offered-by (page.good moves stations) number offset e k = never (cc)
-offered-by (page.bad n o) number offset e k = let same : o ≡ offset = cc in omega arith
+offered-by : (strip : ℕ) (r : Reading) (number offset : ℕ) → offered strip r ≡ bad number offset → FaultBy 256 r
+    → offset ≤ 256
+offered-by strip (page.good moves stations) number offset e k = never (cc)
+offered-by strip (page.bad n o) number offset e k = let same : o ≡ offset = cc in omega arith
 
-page-by : (image : List ℕ) (p number offset : ℕ) → mapPage image p ≡ bad number offset → offset ≤ 256
+page-by : (strip : ℕ) (image : List ℕ) (p number offset : ℕ) → mapPage strip image p ≡ bad number offset
+    → offset ≤ 256
 unfolding mapPage
-page-by image p number offset e = offered-by (readingOf image p) number offset e (reading-by-256 image p)
+page-by strip image p number offset e = offered-by strip (readingOf image p) number offset e (reading-by-256 image p)
 
 module _ (q : Query) (t : Lent) where
   ended-small : (h : Halt) (s : State) → s .halt ≡ h → (frameOf q) .size ≤ 2048 → length (s .pages) ≤ (frameOf q) .size
@@ -66,7 +68,7 @@ module _ (q : Query) (t : Lent) where
       (omega (arith, count-le (hasTime (frameOf q) s) ((frameOf q) .size))) (omega arith)
   ended-small (net.refused number p offset) s e few short why =
       sized number (length (s .pages)) 0 p offset (omega arith) (omega arith)
-      (page-by (q .image) p number offset (why number p offset e))
+      (page-by (q .strip) (q .image) p number offset (why number p offset e))
 
   on-map-small : (df : Bool) → Admitted q t → Bytes (q .image) → Small (ofSearch ((onMap (searchOf df) q t) .reply))
   unfolding onMap

@@ -36,11 +36,12 @@ pub extern "C" fn yard_check(image: &[u8], answer: &mut [u32]) -> u32
     tell(of_check(page::whole::check(image)), answer)
 }
 
-// The plain search: Dijkstra's.
+// The plain search, Dijkstra's, for a strip of a length in decimetres.
 #[no_mangle]
 pub extern "C" fn yard_plain(
     image: &[u8],
     source: u16,
+    strip: u16,
     times: &mut [u32],
     preds: &mut [u16],
     marks: &mut [u8],
@@ -48,20 +49,21 @@ pub extern "C" fn yard_plain(
     answer: &mut [u32],
 ) -> u32
     ensures told { λ r. ⌜
-        SearchTold plainSearch (Promised plainSearch) (asked (now (image .entry)) source)
+        SearchTold plainSearch (Promised plainSearch) (asked (now (image .entry)) source strip)
         (lent (now (times .entry)) (now (preds .entry)) (now (marks .entry)) (now (list .entry)))
         (lent (now (times .exit)) (now (preds .exit)) (now (marks .exit)) (now (list .exit)))
         r (now (answer .entry)) (now (answer .exit)) ⌝ }
 {
-    let answered = search::calls::plain(image, source, times, preds, marks, list);
+    let answered = search::calls::plain(image, source, strip, times, preds, marks, list);
     tell_search(answered, answer)
 }
 
-// The DF search.
+// The DF search for such a strip.
 #[no_mangle]
 pub extern "C" fn yard_df(
     image: &[u8],
     source: u16,
+    strip: u16,
     times: &mut [u32],
     preds: &mut [u16],
     marks: &mut [u8],
@@ -69,12 +71,12 @@ pub extern "C" fn yard_df(
     answer: &mut [u32],
 ) -> u32
     ensures told { λ r. ⌜
-        SearchTold dfSearch DfPromised (asked (now (image .entry)) source)
+        SearchTold dfSearch DfPromised (asked (now (image .entry)) source strip)
         (lent (now (times .entry)) (now (preds .entry)) (now (marks .entry)) (now (list .entry)))
         (lent (now (times .exit)) (now (preds .exit)) (now (marks .exit)) (now (list .exit)))
         r (now (answer .entry)) (now (answer .exit)) ⌝ }
 {
-    let answered = search::calls::df(image, source, times, preds, marks, list);
+    let answered = search::calls::df(image, source, strip, times, preds, marks, list);
     tell_search(answered, answer)
 }
 

@@ -1,16 +1,18 @@
-//! The cases of the fuzzer: an image with a source, and a predecessor table with a station. Each is of a kind, so
-//! that the counts at the end show what was tried.
+//! The cases of the fuzzer: an image with a source and two strips, and a predecessor table with a station. Each is of a
+//! kind, so that the counts at the end show what was tried.
 
 use super::damage::{change_byte, change_length, spoil_heading, spoil_page};
 use super::{good, page_bytes, Command, Map, MOST_STATIONS, PAGE_BYTES};
 use crate::random::Random;
-use crate::reference::image::Fault;
+use crate::reference::image::{Fault, Move};
 use crate::reference::{NO_PREDECESSOR, SOURCE};
 
 pub struct Case {
     pub kind: &'static str,
     pub image: Vec<u8>,
     pub source: u16,
+    /// The lengths of two strips in decimetres, the shorter first.
+    pub strips: [u16; 2],
     /// The number of stations that tables are measured by; the heading of a damaged image may say otherwise.
     pub stations: usize,
     /// How reading each page has to end, where the way the image was made tells.
@@ -29,13 +31,26 @@ pub fn draw(random: &mut Random) -> Case {
         _ => ("random bytes", random_bytes(random), None),
     };
     let source = source(&map, random);
-    Case { kind, image, source, stations: map.stations(), known }
+    let mut strips = [strip(&map, random), strip(&map, random)];
+    strips.sort();
+    Case { kind, image, source, strips, stations: map.stations(), known }
 }
 
 fn source(map: &Map, random: &mut Random) -> u16 {
     let past = random.from_to(map.stations(), 65_535);
     let source = if random.one_in(30) { random.pick(&[map.stations(), past]) } else { random.below(map.stations()) };
     source as u16
+}
+
+/// Next to a limit of the map, if it has one; else the least, the greatest or any.
+fn strip(map: &Map, random: &mut Random) -> u16 {
+    let limits: Vec<u16> = map.moves.iter().flatten().filter_map(|step| step.limit).collect();
+    if limits.is_empty() || random.one_in(4) {
+        let any = random.below(65_536) as u16;
+        return random.pick(&[0, 1, 65_535, any]);
+    }
+    let limit = random.pick(&limits);
+    random.next_to(limit)
 }
 
 type Made = (&'static str, Vec<u8>, Option<Vec<Option<Fault>>>);
@@ -103,7 +118,10 @@ fn loose_command(map: &Map, random: &mut Random) -> Command {
     match random.below(5) {
         0 => Command::End,
         1 => Command::Station(number),
-        _ => Command::Move(number, random.pick(&[0, 1, 7, 65_535])),
+        _ => {
+            let (time, limit) = (random.pick(&[0, 1, 7, 65_535]), random.pick(&[0, 1, 7, 65_535]));
+            Command::Move(Move { target: number, time, limit: random.pick(&[None, Some(limit)]) })
+        }
     }
 }
 
@@ -112,7 +130,7 @@ fn random_bytes(random: &mut Random) -> Vec<u8> {
     let (stations, pages) = (random.from_to(1, 40), random.from_to(1, 6));
     let length = if random.one_in(2) { random.below(600) } else { 4 + stations + PAGE_BYTES * pages };
     let mut image = vec![0; length];
-    let codes = random.pick(&[3, 4, 256]);
+    let codes = random.pick(&[4, 5, 256]);
     for byte in &mut image {
         *byte = random.below(codes) as u8;
     }

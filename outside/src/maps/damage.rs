@@ -1,9 +1,9 @@
-//! Damage of every kind, 1 to 5 to a whole image and 8 to 14 to a page. Page damage is made on the drawing, so that
+//! Damage of every kind, 1 to 5 to a whole image, 8 to 14 and 18 to a page. Page damage is made on the drawing, so that
 //! the refusal's number and offset are known without a page reader.
 
 use super::{page_bytes, Command, Map, MOST_PAGES, MOST_STATIONS, PAGE_BYTES};
 use crate::random::Random;
-use crate::reference::image::Fault;
+use crate::reference::image::{Fault, Move};
 
 /// A page spoiled on purpose, and how reading it has to end.
 pub struct Spoiled {
@@ -18,18 +18,19 @@ struct Page<'a> {
     commands: Vec<Command>,
 }
 
-/// Spoils a page by one of the refusals 8 to 14 (not all of them can be had on every page; 11 always can).
+/// Spoils a page by one of the refusals 8 to 14 and 18 (not all of them can be had on every page; 11 always can).
 pub fn spoil_page(map: &Map, page: usize, random: &mut Random) -> Spoiled {
     let drawing = Page { map, stations: map.stations_of(page), commands: map.commands(page) };
     loop {
-        let spoiled = match random.from_to(8, 14) {
+        let spoiled = match random.pick(&[8, 9, 10, 11, 12, 13, 14, 18]) {
             8 => drawing.unknown_code(random),
             9 => drawing.overfull(random),
             10 => drawing.wrong_station(random),
             11 => drawing.move_first(random),
             12 => drawing.wrong_target(random),
             13 => drawing.no_time(random),
-            _ => drawing.after_end(random),
+            14 => drawing.after_end(random),
+            _ => drawing.no_limit(random),
         };
         if let Some(spoiled) = spoiled {
             return spoiled;
@@ -48,10 +49,18 @@ impl Page<'_> {
         (!fit.is_empty()).then(|| random.pick(&fit))
     }
 
+    /// A move of the page, and its index.
+    fn some_move(&self, random: &mut Random) -> Option<(usize, Move)> {
+        let at = self.some(random, |command| matches!(command, Command::Move(_)))?;
+        let Command::Move(step) = self.commands[at] else { return None };
+        Some((at, step))
+    }
+
     fn unknown_code(&self, random: &mut Random) -> Option<Spoiled> {
         let offset = self.offset(random.below(self.commands.len()));
         let mut bytes = page_bytes(&self.commands);
-        bytes[offset] = random.from_to(3, 255) as u8;
+        let any = random.from_to(4, 255);
+        bytes[offset] = random.pick(&[4, any]) as u8;
         Some(spoiled(random, bytes, 8, offset, 1))
     }
 
@@ -63,14 +72,22 @@ impl Page<'_> {
             commands.push(Command::Station(station));
             let others = (0..self.map.stations() as u16).filter(|&target| target != station);
             let kept = others.filter(|_| random.below(3) < keep).collect::<Vec<_>>();
-            commands.extend(kept.iter().map(|&target| Command::Move(target, random.from_to(1, 65_535) as u16)));
+            commands.extend(kept.iter().map(|&target| {
+                let (time, limit) = (random.from_to(1, 65_535) as u16, random.from_to(1, 65_535) as u16);
+                Command::Move(Move { target, time, limit: random.pick(&[None, Some(limit)]) })
+            }));
         }
         commands.push(Command::End);
         let drawing = Page { map: self.map, stations: Vec::new(), commands };
         let passes = |at: &usize| drawing.offset(*at) + drawing.commands[*at].length() > PAGE_BYTES;
         let first = (0..drawing.commands.len().min(PAGE_BYTES)).find(passes)?;
-        let offset = drawing.offset(first) as u32;
-        Some(Spoiled { bytes: page_bytes(&drawing.commands), fault: Fault { refusal: 9, offset } })
+        let offset = drawing.offset(first);
+        let mut bytes = page_bytes(&drawing.commands);
+        // 9 comes before whatever else is wrong with numbers of 0.
+        if random.one_in(2) {
+            bytes.iter_mut().skip(offset + 1).for_each(|byte| *byte = 0);
+        }
+        Some(Spoiled { bytes, fault: Fault { refusal: 9, offset: offset as u32 } })
     }
 
     fn wrong_station(&self, random: &mut Random) -> Option<Spoiled> {
@@ -89,13 +106,13 @@ impl Page<'_> {
         if self.commands[at] == Command::Station(number) {
             return None;
         }
-        Some(self.with(random, at, Command::Station(number), 10))
+        self.with(random, at, Command::Station(number), 10)
     }
 
     /// What follows the station left out, the next station or the end, stands in its place.
     fn station_left_out(&self, random: &mut Random) -> Option<Spoiled> {
         let at = self.some(random, |command| matches!(command, Command::Station(_)))?;
-        let is_move = |command: &&Command| matches!(command, Command::Move(..));
+        let is_move = |command: &&Command| matches!(command, Command::Move(_));
         let moves = self.commands[at + 1..].iter().take_while(is_move).count();
         let mut commands = self.commands.clone();
         commands.drain(at..=at + moves);
@@ -104,37 +121,34 @@ impl Page<'_> {
     }
 
     fn station_too_many(&self, random: &mut Random) -> Option<Spoiled> {
-        let at = self.commands.len() - 1;
-        if self.offset(at) + Command::Station(0).length() > PAGE_BYTES {
-            return None;
-        }
         let number = random.below(self.map.stations() + 1) as u16;
-        Some(self.with(random, at, Command::Station(number), 10))
+        self.with(random, self.commands.len() - 1, Command::Station(number), 10)
     }
 
     fn early_end(&self, random: &mut Random) -> Option<Spoiled> {
         let at = self.some(random, |command| matches!(command, Command::Station(_)))?;
-        Some(self.with(random, at, Command::End, 10))
+        self.with(random, at, Command::End, 10)
     }
 
     fn move_first(&self, random: &mut Random) -> Option<Spoiled> {
-        let (target, time) = (random.below(self.map.stations() + 1), random.below(3));
+        let (target, time) = (random.below(self.map.stations() + 1) as u16, random.below(3) as u16);
+        let first = Command::Move(Move { target, time, limit: random.pick(&[None, Some(0), Some(1)]) });
         let mut commands = self.commands.clone();
-        commands.insert(0, Command::Move(target as u16, time as u16));
-        Some(spoiled(random, page_bytes(&commands), 11, 0, 5))
+        commands.insert(0, first);
+        Some(spoiled(random, page_bytes(&commands), 11, 0, first.length()))
     }
 
-    /// Not below N, the station itself, or not above the target before; with a good time or none.
+    /// Not below N, the station itself, or not above the target before; with a good time and limit or with 0.
     fn wrong_target(&self, random: &mut Random) -> Option<Spoiled> {
-        let at = self.some(random, |command| matches!(command, Command::Move(..)))?;
-        let Command::Move(_, time) = self.commands[at] else { return None };
+        let (at, step) = self.some_move(random)?;
         let target = match (random.below(3), self.commands[at - 1]) {
-            (0, Command::Move(before, _)) => random.below(usize::from(before) + 1) as u16,
+            (0, Command::Move(before)) => random.below(usize::from(before.target) + 1) as u16,
             (1, _) => self.owner(at),
             _ => random.pick(&[self.map.stations() as u16, 65_535, 2_048]).max(self.map.stations() as u16),
         };
-        let time = random.pick(&[time, time, 0]);
-        Some(self.with(random, at, Command::Move(target, time), 12))
+        let time = random.pick(&[step.time, step.time, 0]);
+        let limit = random.pick(&[step.limit, step.limit, Some(0)]);
+        self.with(random, at, Command::Move(Move { target, time, limit }), 12)
     }
 
     /// The station that a move belongs to.
@@ -147,10 +161,16 @@ impl Page<'_> {
         stations.next().expect("every move of a good page follows a station")
     }
 
+    /// With a good limit or with 0.
     fn no_time(&self, random: &mut Random) -> Option<Spoiled> {
-        let at = self.some(random, |command| matches!(command, Command::Move(..)))?;
-        let Command::Move(target, _) = self.commands[at] else { return None };
-        Some(self.with(random, at, Command::Move(target, 0), 13))
+        let (at, step) = self.some_move(random)?;
+        let limit = random.pick(&[step.limit, step.limit, Some(0)]);
+        self.with(random, at, Command::Move(Move { time: 0, limit, ..step }), 13)
+    }
+
+    fn no_limit(&self, random: &mut Random) -> Option<Spoiled> {
+        let (at, step) = self.some_move(random)?;
+        self.with(random, at, Command::Move(Move { limit: Some(0), ..step }), 18)
     }
 
     fn after_end(&self, random: &mut Random) -> Option<Spoiled> {
@@ -163,11 +183,15 @@ impl Page<'_> {
         Some(Spoiled { bytes, fault: Fault { refusal: 14, offset: end as u32 } })
     }
 
-    /// The page with one command, at which reading has to stop, in place of another.
-    fn with(&self, random: &mut Random, at: usize, command: Command, refusal: u32) -> Spoiled {
+    /// The page with one command, at which reading has to stop, in place of another; none if it passes the page's end.
+    fn with(&self, random: &mut Random, at: usize, command: Command, refusal: u32) -> Option<Spoiled> {
+        let offset = self.offset(at);
+        if offset + command.length() > PAGE_BYTES {
+            return None;
+        }
         let mut commands = self.commands.clone();
         commands[at] = command;
-        spoiled(random, page_bytes(&commands), refusal, self.offset(at), command.length())
+        Some(spoiled(random, page_bytes(&commands), refusal, offset, command.length()))
     }
 }
 
@@ -224,7 +248,7 @@ pub fn change_byte(image: &mut [u8], random: &mut Random) {
     let at = random.below(image.len());
     image[at] = match random.below(4) {
         0 => random.byte(),
-        1 => random.below(4) as u8,
+        1 => random.below(5) as u8,
         2 => image[at].wrapping_add(random.pick(&[1, 255])),
         _ => image[at] ^ (1 << random.below(8)),
     };

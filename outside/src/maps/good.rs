@@ -1,5 +1,5 @@
 //! Good maps of many shapes: small and full, with many equal sums, with pages that are entered again and again,
-//! chains, stations without moves, pages without stations, times of 1 and of 65,535.
+//! chains, stations without moves, pages without stations, times of 1 and of 65,535, moves without and with limits.
 
 use super::{Map, MOST_ON_A_PAGE, MOST_PAGES, MOST_STATIONS};
 use crate::random::Random;
@@ -38,6 +38,15 @@ enum Pace {
     Square,
 }
 
+/// What the moves of a map are like.
+struct Terms {
+    pace: Pace,
+    /// So many moves of four have a limit.
+    limited: usize,
+    /// The length that most limits lie next to: a strip of about that length finds some moves open and some closed.
+    middle: u16,
+}
+
 /// Chains laid before any other move.
 #[derive(Clone, Copy)]
 enum Chain {
@@ -60,9 +69,9 @@ pub fn draw(random: &mut Random) -> Map {
     }
     let (stations, pages) = size(random);
     let mut map = Map::new(pages, directory(random, stations, pages));
-    let pace = random.pick(&PACES);
-    lay_chain(&mut map, random, pace);
-    scatter_moves(&mut map, random, pace);
+    let terms = terms(random);
+    lay_chain(&mut map, random, &terms);
+    scatter_moves(&mut map, random, &terms);
     map
 }
 
@@ -70,10 +79,11 @@ pub fn draw(random: &mut Random) -> Map {
 fn longest_ring(random: &mut Random) -> Map {
     let stations = random.from_to(MOST_STATIONS - 3, MOST_STATIONS);
     let dealt = random.one_in(2);
+    let limit = random.pick(&[None, Some(65_535)]);
     let page = |station| if dealt { station % MOST_PAGES } else { station * MOST_PAGES / stations };
     let mut map = Map::new(MOST_PAGES, (0..stations).map(|station| page(station) as u8).collect());
     for station in 0..stations {
-        map.add(station, (station + 1) % stations, 65_535);
+        map.add(station, (station + 1) % stations, 65_535, limit);
     }
     map
 }
@@ -114,7 +124,13 @@ fn directory(random: &mut Random, stations: usize, pages: usize) -> Vec<u8> {
     directory
 }
 
-fn lay_chain(map: &mut Map, random: &mut Random, pace: Pace) {
+fn terms(random: &mut Random) -> Terms {
+    let any = random.from_to(1, 65_535) as u16;
+    let middle = random.pick(&[1, 2, 8_120, 65_534, 65_535, any]);
+    Terms { pace: random.pick(&PACES), limited: random.from_to(0, 4), middle }
+}
+
+fn lay_chain(map: &mut Map, random: &mut Random, terms: &Terms) {
     let chain = random.pick(&CHAINS);
     let stations = map.stations();
     for station in 1..stations {
@@ -123,16 +139,14 @@ fn lay_chain(map: &mut Map, random: &mut Random, pace: Pace) {
             Chain::Up | Chain::Ring => (station - 1, station),
             Chain::Down => (station, station - 1),
         };
-        let time = time(random, pace, from, target);
-        map.add(from, target, time);
+        terms.add_move(map, random, from, target);
     }
     if let Chain::Ring = chain {
-        let time = time(random, pace, stations - 1, 0);
-        map.add(stations - 1, 0, time);
+        terms.add_move(map, random, stations - 1, 0);
     }
 }
 
-fn scatter_moves(map: &mut Map, random: &mut Random, pace: Pace) {
+fn scatter_moves(map: &mut Map, random: &mut Random, terms: &Terms) {
     let stations = map.stations();
     // From next to none to as many as the pages hold; two kinds of moves in one map.
     let tries = stations * random.pick(&[0, 1, 1, 2, 3, 6, 20]) / random.from_to(1, 2);
@@ -141,8 +155,7 @@ fn scatter_moves(map: &mut Map, random: &mut Random, pace: Pace) {
         let from = random.below(stations);
         let reach = random.pick(&reaches);
         let target = target(map, random, reach, from);
-        let time = time(random, pace, from, target);
-        map.add(from, target, time);
+        terms.add_move(map, random, from, target);
     }
 }
 
@@ -171,15 +184,32 @@ fn look_for(map: &Map, random: &mut Random, wanted: impl Fn(u8) -> bool) -> usiz
     station
 }
 
-fn time(random: &mut Random, pace: Pace, from: usize, target: usize) -> u16 {
-    let apart = from.abs_diff(target).max(1);
-    let time = match pace {
-        Pace::One => 1,
-        Pace::Most => 65_535,
-        Pace::Small => random.from_to(1, 4),
-        Pace::Wide => random.from_to(1, 65_535),
-        Pace::Distance => apart,
-        Pace::Square => apart * apart,
-    };
-    time.min(65_535) as u16
+impl Terms {
+    fn add_move(&self, map: &mut Map, random: &mut Random, from: usize, target: usize) {
+        let time = self.time(random, from, target);
+        let limit = (random.below(4) < self.limited).then(|| self.limit(random));
+        map.add(from, target, time, limit);
+    }
+
+    fn time(&self, random: &mut Random, from: usize, target: usize) -> u16 {
+        let apart = from.abs_diff(target).max(1);
+        let time = match self.pace {
+            Pace::One => 1,
+            Pace::Most => 65_535,
+            Pace::Small => random.from_to(1, 4),
+            Pace::Wide => random.from_to(1, 65_535),
+            Pace::Distance => apart,
+            Pace::Square => apart * apart,
+        };
+        time.min(65_535) as u16
+    }
+
+    fn limit(&self, random: &mut Random) -> u16 {
+        match random.below(8) {
+            0 => 1,
+            1 => 65_535,
+            2 => random.from_to(1, 65_535) as u16,
+            _ => random.next_to(self.middle).max(1),
+        }
+    }
 }

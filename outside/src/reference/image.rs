@@ -1,4 +1,5 @@
-//! "Map image" of document 01: heading, directory, pages, refusals 1 to 5 and 8 to 14, whole check.
+//! "Map image" of document 01: heading, directory, pages, refusals 1 to 5 and 8 to 14, whole check; and the moves with
+//! limits of document 02, refusal 18.
 
 use super::Answer;
 
@@ -19,10 +20,19 @@ pub struct Fault {
     pub offset: u32,
 }
 
+/// A move: `02`, or `03` with the longest strip in decimetres as its limit.
 #[derive(Clone, Copy, Debug, PartialEq, Eq)]
 pub struct Move {
     pub target: u16,
     pub time: u16,
+    pub limit: Option<u16>,
+}
+
+impl Move {
+    /// For a strip's length, searches "use a move only if its limit isn't below it; `02` has no limit".
+    pub fn is_open(self, strip: u16) -> bool {
+        !self.limit.is_some_and(|limit| limit < strip)
+    }
 }
 
 /// A station that a page names, with its moves in page order.
@@ -91,6 +101,7 @@ fn read_page(bytes: &[u8], due: &[u16], station_count: usize) -> Result<Vec<Stat
             0 => 1,
             1 => 3,
             2 => 5,
+            3 => 7,
             _ => return fault(8),
         };
         if at + length > PAGE_BYTES {
@@ -108,7 +119,8 @@ fn read_page(bytes: &[u8], due: &[u16], station_count: usize) -> Result<Vec<Stat
                 named.push(Station { number, moves: Vec::new() });
             }
             _ => {
-                let step = Move { target: u16_at(bytes, at + 1), time: u16_at(bytes, at + 3) };
+                let limit = (code == 3).then(|| u16_at(bytes, at + 5));
+                let step = Move { target: u16_at(bytes, at + 1), time: u16_at(bytes, at + 3), limit };
                 if let Some(refusal) = move_fault(named.last(), step, station_count) {
                     return fault(refusal);
                 }
@@ -119,14 +131,17 @@ fn read_page(bytes: &[u8], due: &[u16], station_count: usize) -> Result<Vec<Stat
     }
 }
 
-/// 11, 12 and 13, in this order.
+/// 11, 12, 13 and 18, in this order.
 fn move_fault(latest: Option<&Station>, step: Move, station_count: usize) -> Option<u32> {
     let Some(station) = latest else { return Some(11) };
     let rising = station.moves.last().is_none_or(|before| before.target < step.target);
     if usize::from(step.target) >= station_count || step.target == station.number || !rising {
         return Some(12);
     }
-    (step.time == 0).then_some(13)
+    if step.time == 0 {
+        return Some(13);
+    }
+    (step.limit == Some(0)).then_some(18)
 }
 
 /// Whole check: 1 to 5, then the pages by rising number.

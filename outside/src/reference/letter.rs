@@ -1,8 +1,8 @@
 //! "The two searches" of document 01, by the letter: every choice is a look at all stations, every reference reads
-//! the page anew.
+//! the page anew. Of the moves they use those that are open to the strip.
 
 use super::image::{Fault, Image, Station};
-use super::{Answer, Search, Tables, NO_PREDECESSOR, NO_TIME, SOURCE};
+use super::{Answer, Query, Search, Tables, NO_PREDECESSOR, NO_TIME, SOURCE};
 
 /// "Per station the state has a time or none, a predecessor, a settled flag and a fresh flag."
 #[derive(Clone, Copy, Default)]
@@ -15,6 +15,7 @@ struct State {
 
 struct Run<'a> {
     image: &'a Image<'a>,
+    query: Query,
     states: Vec<State>,
     list: Vec<u8>,
 }
@@ -26,13 +27,13 @@ struct BadPage {
 }
 
 /// The whole call: refusals 1 to 7, the search, and what it leaves in the lent tables.
-pub fn search(kind: Search, image: &[u8], source: u16, tables: Tables) -> Answer {
+pub fn search(kind: Search, image: &[u8], query: Query, tables: Tables) -> Answer {
     let image = match Image::open(image) {
         Ok(image) => image,
         Err(answer) => return answer,
     };
     let n = image.stations;
-    if usize::from(source) >= n {
+    if usize::from(query.source) >= n {
         return Answer::refused(6);
     }
     if [tables.times.len(), tables.preds.len(), tables.marks.len(), tables.list.len()]
@@ -41,12 +42,12 @@ pub fn search(kind: Search, image: &[u8], source: u16, tables: Tables) -> Answer
     {
         return Answer::refused(7);
     }
-    let mut run = Run::start(&image, source);
+    let mut run = Run::start(&image, query);
     let ended = run.steps(kind);
     if ended.is_err() {
         run.states.fill(State::default());
     }
-    run.write(source, ended.is_ok(), tables);
+    run.write(ended.is_ok(), tables);
     let count = run.list.len() as u32;
     match ended {
         Ok(()) => {
@@ -61,10 +62,10 @@ pub fn search(kind: Search, image: &[u8], source: u16, tables: Tables) -> Answer
 
 impl<'a> Run<'a> {
     /// "At the start the source has time 0 and nothing is settled or fresh."
-    fn start(image: &'a Image<'a>, source: u16) -> Self {
+    fn start(image: &'a Image<'a>, query: Query) -> Self {
         let mut states = vec![State::default(); image.stations];
-        states[usize::from(source)].time = Some(0);
-        Run { image, states, list: Vec::new() }
+        states[usize::from(query.source)].time = Some(0);
+        Run { image, query, states, list: Vec::new() }
     }
 
     fn steps(&mut self, kind: Search) -> Result<(), BadPage> {
@@ -118,11 +119,13 @@ impl<'a> Run<'a> {
         self.relax_all(station, content);
     }
 
-    /// Relaxes the station's moves in page order.
+    /// Relaxes the station's open moves in page order.
     fn relax_all(&mut self, station: usize, content: &[Station]) {
         let named = content.iter().find(|named| usize::from(named.number) == station);
         for step in &named.expect("a good page names each of its stations").moves {
-            self.relax(station, usize::from(step.target), u64::from(step.time));
+            if step.is_open(self.query.strip) {
+                self.relax(station, usize::from(step.target), u64::from(step.time));
+            }
         }
     }
 
@@ -138,14 +141,14 @@ impl<'a> Run<'a> {
     }
 
     /// Writes the first N entries of times, predecessors and marks, and the list's count entries; no others.
-    fn write(&self, source: u16, accepted: bool, tables: Tables) {
+    fn write(&self, accepted: bool, tables: Tables) {
         for (station, state) in self.states.iter().enumerate() {
             tables.times[station] = state.time.map_or(NO_TIME, |time| time as u32);
             tables.preds[station] = state.predecessor.unwrap_or(NO_PREDECESSOR);
             tables.marks[station] = 0;
         }
         if accepted {
-            tables.preds[usize::from(source)] = SOURCE;
+            tables.preds[usize::from(self.query.source)] = SOURCE;
         }
         tables.list[..self.list.len()].copy_from_slice(&self.list);
     }

@@ -23,8 +23,8 @@ pub fn listed(list: &[u8]) -> [bool; 256] {
     listed
 }
 
-/// How many entry stations each page has: its stations that are the source or the target of a move from a station on
-/// another listed page.
+/// How many entry stations each page has: its stations that are the source or the target of an open move from a
+/// station on another listed page.
 pub fn entry_stations(directory: &[u8], legs: &[Leg], source: u16, list: &[u8]) -> [usize; 256] {
     let listed = listed(list);
     let mut is_entry = vec![false; directory.len()];

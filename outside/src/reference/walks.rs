@@ -1,11 +1,11 @@
 //! What a search has to give, by a method that has no steps in common with it: Bellman and Ford's rounds over all
-//! moves of the good pages give the least times over "walks that leave only stations on good pages"; predecessors,
+//! open moves of the good pages give the least times over "walks that leave only stations on good pages"; predecessors,
 //! refused page and Dijkstra's list are then read off the times.
 
 use super::image::{Fault, Image, Station};
-use super::{NO_PREDECESSOR, NO_TIME, SOURCE};
+use super::{Query, NO_PREDECESSOR, NO_TIME, SOURCE};
 
-/// A move of the map, with the station it leaves.
+/// A move of a walk, with the station it leaves.
 #[derive(Clone, Copy)]
 pub struct Leg {
     pub from: u16,
@@ -35,21 +35,19 @@ pub fn read_all(image: &Image) -> Pages {
     (0..image.pages).map(|page| image.read(page)).collect()
 }
 
-/// The moves of all good pages.
-pub fn legs(pages: &Pages) -> Vec<Leg> {
-    let stations = pages.iter().flatten().flatten();
-    stations
-        .flat_map(|station| station.moves.iter().map(|step| leg(station.number, step.target, step.time)))
-        .collect()
+/// The moves of all good pages that are open to a strip.
+pub fn legs(pages: &Pages, strip: u16) -> Vec<Leg> {
+    let mut legs = Vec::new();
+    for station in pages.iter().flatten().flatten() {
+        let open = station.moves.iter().filter(|step| step.is_open(strip));
+        legs.extend(open.map(|step| Leg { from: station.number, target: step.target, time: step.time }));
+    }
+    legs
 }
 
-fn leg(from: u16, target: u16, time: u16) -> Leg {
-    Leg { from, target, time }
-}
-
-pub fn truth(image: &Image, pages: &Pages, source: u16) -> Truth {
-    let legs = legs(pages);
-    let times = least_times(image.stations, &legs, source);
+pub fn truth(image: &Image, pages: &Pages, query: Query) -> Truth {
+    let legs = legs(pages, query.strip);
+    let times = least_times(image.stations, &legs, query.source);
     let mut order: Vec<usize> = (0..image.stations).filter(|&station| times[station].is_some()).collect();
     order.sort_by_key(|&station| (times[station], station));
     let first_bad = order.iter().position(|&station| pages[image.page_of(station)].is_err());
@@ -64,7 +62,7 @@ pub fn truth(image: &Image, pages: &Pages, source: u16) -> Truth {
         let (times, preds) = (vec![NO_TIME; image.stations], vec![NO_PREDECESSOR; image.stations]);
         return Truth { times, preds, reached: 0, refused, plain_list };
     }
-    let preds = lowest_predecessors(&times, &legs, source);
+    let preds = lowest_predecessors(&times, &legs, query.source);
     let reached = order.len();
     let times = times.iter().map(|time| time.map_or(NO_TIME, |time| time as u32)).collect();
     Truth { times, preds, reached, refused, plain_list }

@@ -4,15 +4,15 @@ use Rattle.common.proofs.Ground.{_≡_, refl, ap, sym, _∙_, subst, true, ⊎-
 use Rattle.common.proofs.Ground.{_%_, arith, length, drop, replicate, length-drop, eqb, eqb-true}
 use Rattle.common.proofs.Cases.{by-pick, never}
 use Rattle.commands.specs.declared.Move.{Move}
-use Rattle.commands.specs.declared.Command.the-variants.{End, Station, MoveTo}
+use Rattle.commands.specs.declared.Command.the-variants.{End, Station}
 use Rattle.image.specs.Bytes.{allZero, Bytes}
 use Rattle.page.specs.Reading.{Reading, good, bad, Leaving, withMove, withStation, readPage}
-use Rattle.commands.specs.Commands.{widthOf}
+use Rattle.commands.specs.Commands.{lengthOf, widthOf}
 use Rattle.page.specs.Good.{GoodMoves, GoodStations, names, GoodContent, spellMove, spellMoves, spellStations}
 use Rattle.page.specs.Good.{spelled}
-use Rattle.page.proofs.Reading.Steps.{Found, by-commands}
+use Rattle.page.proofs.Reading.Steps.{Found, FoundMove, by-commands}
 use Rattle.page.proofs.Good.Stations.{listed, listed-cases}
-use Rattle.page.proofs.Good.Spelling.{station-bytes, move-bytes, move-time-fits}
+use Rattle.page.proofs.Good.Spelling.{station-bytes, move-bytes, move-words-fit}
 
 -- bytes that are all zero
 zeros-are : (l : List ℕ) → allZero l ≡ true → l ≡ replicate (length l) 0
@@ -69,18 +69,18 @@ module _ (directory : List ℕ) (p : ℕ) (page : List ℕ) (bytes : Bytes page)
     }
     kept-station v j (bad number offset) k = tt
 
-    kept-move : (m : Move) → Found directory p page at after least (MoveTo m) → (r : Reading)
-        → Kept (at + widthOf (MoveTo m)) after (m .target + 1) r → Kept at after least (withMove m r)
+    kept-move : (code : ℕ) (m : Move) → FoundMove directory p page at after least code m → (r : Reading)
+        → Kept (at + lengthOf code) after (m .target + 1) r → Kept at after least (withMove m r)
     unfolding spellMoves
-    kept-move m j (good moves stations) k = record {
-      moves-good = λ own q. (omega (arith, move-time-fits page at bytes m (j .0)), k .moves-good own q);
+    kept-move code m j (good moves stations) k = record {
+      moves-good = λ own q. (omega (arith, j .1, move-words-fit page at bytes code m (j .0)), k .moves-good own q);
       none-before = λ q. absurd (j .1 .begun q);
       stations-good = k .stations-good;
       named = k .named;
       zeros = k .zeros;
-      spells = move-bytes page at bytes m (j .0) ∙ ap (spellMove m) (k .spells);
+      spells = move-bytes page at bytes code m (j .0) (j .1 .limited) ∙ ap (spellMove m) (k .spells);
     }
-    kept-move m j (bad number offset) k = tt
+    kept-move code m j (bad number offset) k = tt
 
   -- The promise of a page read as good.
   pub record Promise (moves : List Move) (stations : List Leaving) : Type 0 where

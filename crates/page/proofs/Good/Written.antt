@@ -6,18 +6,20 @@ use Rattle.common.proofs.Ground.{arith, length, drop, replicate, length-drop, l
 use Rattle.common.proofs.Cases.{never}
 use Rattle.commands.specs.declared.Move.{Move}
 use Rattle.commands.specs.declared.Command.{Command}
-use Rattle.commands.specs.declared.Command.the-variants.{End, Station, MoveTo}
+use Rattle.commands.specs.declared.Command.the-variants.{End, Station}
 use Rattle.image.specs.Bytes.{Bytes, allZero}
 use Rattle.page.specs.Reading.{Reading, good, Leaving, withMove, withStation, readFrom, readPage}
-use Rattle.commands.specs.Commands.{widthOf}
-use Rattle.commands.specs.Commands.{commandAt}
+use Rattle.commands.specs.Commands.{lengthOf, widthOf, commandAt}
 use Rattle.commands.specs.Rules.{nextOn}
-use Rattle.page.specs.Good.{GoodMoves, GoodStations, names, GoodContent, spellMoves, spellStations, spelled}
-use Rattle.commands.proofs.Judging.{Keeps, passes}
-use Rattle.page.proofs.Reading.Steps.{reading, read-step}
+use Rattle.page.specs.Good.{GoodMoves, GoodStations, names, GoodContent, codeOf, spellMoves, spellStations}
+use Rattle.page.specs.Good.{spelled}
+use Rattle.commands.proofs.Lengths.{move-width}
+use Rattle.commands.proofs.Judging.{MoveKeeps, Keeps, passes}
+use Rattle.page.proofs.Reading.Steps.{reading, read-step, keeps-move, read-move-step}
 use Rattle.page.proofs.Good.Stations.{listed, listed-cases}
 use Rattle.page.proofs.Good.Promise.{promise}
-use Rattle.page.proofs.Good.Spelling.{read-end, read-station, read-move}
+use Rattle.page.proofs.Good.Spelling.{read-end, read-station, read-move, code-cases, code-limited, behind-move}
+use Rattle.page.proofs.Good.Spelling.{length-limit}
 
 all-zeros : (n : ℕ) → allZero (replicate n 0) ≡ true
 unfolding allZero
@@ -50,9 +52,21 @@ module _ (directory : List ℕ) (p : ℕ) (page : List ℕ) (zeros : ℕ) where
   unfolding spellMoves
   read-moves [] stations f at own least h g e after-them = after-them f at least h e
   read-moves (m ∷ moves) stations f at own least h g e after-them =
-      let behind = sym (drop-drop (widthOf (MoveTo m)) at page) ∙ ap (drop (widthOf (MoveTo m))) e in
-      one-step f at (own + 1) least (MoveTo m) _ _ h e (read-move page at m _ e) (omega arith) ∙
-      ap (withMove m) (read-moves moves stations (f - 1) _ own (m .target + 1) (omega arith) (g .1) behind after-them)
+      let width = lengthOf (codeOf m) in
+      let behind = sym (drop-drop width at page) ∙ ap (drop width) e ∙ behind-move m _ in
+      let keeps : MoveKeeps (length directory) (own + 1) least (codeOf m) m = record {
+        begun = omega arith;
+        below = g .0 .below;
+        other = λ own-target. g .0 .other (omega arith);
+        rising = g .0 .rising;
+        timed = omega (arith, g .0 .timed);
+        limited = code-limited m;
+      } in
+      let (x, is, stands) = read-move page at m _ e in
+      one-step f at (own + 1) least x _ _ h e stands (keeps-move directory p page at is keeps) ∙
+      read-move-step directory p page is (f - 1) at (own + 1) least ∙
+      ap (withMove m) (read-moves moves stations (f - 1) _ own (m .target + 1)
+      (omega (arith, move-width (code-cases m))) (g .1) behind after-them)
 
   read-stations : (stations : List Leaving) (f at after least : ℕ) → length page < at + f
       → GoodStations (length directory) stations → names stations ≡ listed directory p after
@@ -88,7 +102,13 @@ length-moves : (moves : List Move) (rest : List ℕ)
     → length (spellMoves moves rest) ≡ length (spellMoves moves []) + length rest
 unfolding spellMoves
 length-moves [] rest = omega arith
-length-moves (m ∷ moves) rest = omega (arith, length-moves moves rest)
+length-moves (m ∷ moves) rest =
+    omega (
+      arith,
+      length-limit m (spellMoves moves rest),
+      length-limit m (spellMoves moves []),
+      length-moves moves rest,
+    )
 
 length-stations : (stations : List Leaving) (rest : List ℕ)
     → length (spellStations stations rest) ≡ length (spellStations stations []) + length rest

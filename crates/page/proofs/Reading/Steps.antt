@@ -3,11 +3,17 @@
 use Rattle.common.proofs.Ground.{_≡_, refl, ap, _∙_, List, [], ℕ, zero, suc, _+_, _-_, _≤_, arith, length}
 use Rattle.commands.specs.declared.Move.{Move}
 use Rattle.commands.specs.declared.Command.{Command}
-use Rattle.commands.specs.declared.Command.the-variants.{End, Station, MoveTo, Fault}
+use Rattle.commands.specs.declared.Command.the-variants.{End, Station, MoveTo, Limited, Fault}
 use Rattle.page.specs.Reading.{Reading, good, bad, withMove, withStation, readFrom}
-use Rattle.commands.specs.Commands.{widthOf}
+use Rattle.commands.specs.Commands.{lengthOf, widthOf}
 use Rattle.commands.specs.Rules.{nextOn, judgedAt}
-use Rattle.commands.proofs.Judging.{Judged, judged}
+use Rattle.commands.proofs.Lengths.{MoveStands}
+use Rattle.commands.proofs.Judging.{MoveKeeps, Keeps, Judged, judged}
+
+-- A command that is a move of a code.
+pub data IsMove (m : Move) : ℕ → Command → Type 0 where
+  unlimited : IsMove m 2 (MoveTo m)
+  limited : IsMove m 3 (Limited m)
 
 module _ (directory : List ℕ) (p : ℕ) (page : List ℕ) where
   -- What is judged at an offset, and the reading that begins with it.
@@ -23,8 +29,30 @@ module _ (directory : List ℕ) (p : ℕ) (page : List ℕ) where
         | End ↦ good [] []
         | Station v ↦ withStation v (readFrom directory p page commands (at + widthOf (Station v)) (v + 1) 0)
         | MoveTo m ↦ withMove m (readFrom directory p page commands (at + widthOf (MoveTo m)) after (m .target + 1))
+        | Limited m ↦ withMove m (readFrom directory p page commands (at + widthOf (Limited m)) after (m .target + 1))
         | Fault number ↦ bad number at
       ]
+
+  -- A move found, of either code.
+  abbrev pub FoundMove : ℕ → ℕ → ℕ → ℕ → Move → Type 0
+  FoundMove at after least code m = MoveStands page at code m × MoveKeeps (length directory) after least code m
+
+  pub found-move : {code : ℕ} {m : Move} {x : Command} {at after least : ℕ} → IsMove m code x → Found at after least x
+      → FoundMove at after least code m
+  found-move unlimited j = j
+  found-move limited j = j
+
+  pub keeps-move : {code : ℕ} {m : Move} {x : Command} (at : ℕ) {after least : ℕ} → IsMove m code x
+      → MoveKeeps (length directory) after least code m
+      → Keeps page at (length directory) (nextOn directory p after) after least x
+  keeps-move at unlimited k = k
+  keeps-move at limited k = k
+
+  pub read-move-step : {code : ℕ} {m : Move} {x : Command} → IsMove m code x → (commands at after least : ℕ)
+      → reading commands at after least x
+      ≡ withMove m (readFrom directory p page commands (at + lengthOf code) after (m .target + 1))
+  read-move-step unlimited commands at after least = refl
+  read-move-step limited commands at after least = refl
 
   pub read-step : (commands at after least : ℕ) {x : Command} → 1 ≤ commands → foundAt at after least ≡ x
       → readFrom directory p page commands at after least ≡ reading (commands - 1) at after least x
@@ -38,14 +66,15 @@ module _ (directory : List ℕ) (p : ℕ) (page : List ℕ) where
       (end : (at after least : ℕ) → Found at after least End → Holds at after least (good [] []))
       (station : (at after least v : ℕ) → Found at after least (Station v) → (r : Reading)
       → Holds (at + widthOf (Station v)) (v + 1) 0 r → Holds at after least (withStation v r))
-      (move : (at after least : ℕ) (m : Move) → Found at after least (MoveTo m) → (r : Reading)
-      → Holds (at + widthOf (MoveTo m)) after (m .target + 1) r → Holds at after least (withMove m r)) where
+      (move : (at after least code : ℕ) (m : Move) → FoundMove at after least code m → (r : Reading)
+      → Holds (at + lengthOf code) after (m .target + 1) r → Holds at after least (withMove m r)) where
     by-command : (commands at after least : ℕ) (x : Command) → Found at after least x
         → ((i a l : ℕ) → Holds i a l (readFrom directory p page commands i a l))
         → Holds at after least (reading commands at after least x)
     by-command commands at after least End j behind = end at after least j
     by-command commands at after least (Station v) j behind = station at after least v j _ (behind _ _ _)
-    by-command commands at after least (MoveTo m) j behind = move at after least m j _ (behind _ _ _)
+    by-command commands at after least (MoveTo m) j behind = move at after least 2 m j _ (behind _ _ _)
+    by-command commands at after least (Limited m) j behind = move at after least 3 m j _ (behind _ _ _)
     by-command commands at after least (Fault number) j behind = fault at after least number
 
     pub by-commands : (commands at after least : ℕ)

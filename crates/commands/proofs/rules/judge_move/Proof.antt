@@ -1,19 +1,16 @@
--- By the cases of the five tests, in the order of the definition.
-use Rattle.common.proofs.Ground.{needs, tests}
+-- By whether a rule is broken.
+use Rattle.common.proofs.Ground.{needs, tests, le-ltb}
 use Rattle.commands.specs.Rules.{judgeMove}
 use Rattle.commands.proofs.rules.judge_move.Statement.{statement}
 use Rattle.commands.proofs.rules.judge_move.Tie as tie
 
-pub judge-move-spec : {M : Type 1} → statement M
+returns : tie.Need-returns
 unfolding judgeMove
-judge-move-spec =
-    tie.close
-    (tie.spec
-    (λ c. search needs)
-    (λ c. search tests)
-    (λ c. search tests)
-    (λ c. search needs)
-    (λ c. search tests)
-    (λ c. search tests)
-    (λ c. search tests)
-    (λ c. search tests))
+returns c = rw (← (c .before .move-fault .ensures)) (search tests)
+
+returns-2 : tie.Need-returns-2
+unfolding judgeMove
+returns-2 c = rw (← (c .before .move-fault .ensures), le-ltb _ _ (c .if1 .left))
+
+pub judge-move-spec : {M : Type 1} → statement M
+judge-move-spec = tie.close (tie.spec (λ c κs. search needs) returns returns-2)

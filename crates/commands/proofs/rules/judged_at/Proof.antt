@@ -1,6 +1,6 @@
 -- By the command that `command_at` finds: each arm judges it as the definition does, and a fault stays that fault. A
 -- missing station and the next one are told by the slot that is due (proofs/Due.antt).
-use Rattle.common.proofs.Ground.{_≡_, refl, sym, _∙_, ap, arith, length, drop, now, needs}
+use Rattle.common.proofs.Ground.{_≡_, refl, sym, _∙_, ap, ℕ, length, drop, now, needs}
 use Rattle.commands.specs.declared.Command.{Command}
 use Rattle.commands.specs.Rules.{nextOn, judgeEnd, judge, judgedAt}
 use Rattle.commands.proofs.Due.{judged-end-by-slot}
@@ -11,41 +11,45 @@ use Rattle.commands.proofs.rules.judged_at.Tie as tie
 abbrev start : tie.After-command-at → tie.Start
 start read = read .before .before .before .before
 
-read-judged : (read : tie.After-command-at) (x answer : Command) → read .command-at .result ≡ x
+read-judged : (read : tie.After-command-at) (x answer : Command) (p : ℕ) → read .command-at .result ≡ x
     → let a = start read .args in
     let size = length (now (a .directory)) in
-    let next = nextOn (now (a .directory)) (a .p) (a .after) in
+    let next = nextOn (now (a .directory)) p (a .after) in
     answer ≡ judge size next (a .after) (a .least) (drop (a .at) (now (a .page))) x
     → answer ≡ judgedAt (now (a .page)) (a .at) size next (a .after) (a .least)
 unfolding judgedAt
-read-judged read x answer e judged = judged ∙ ap (judge _ _ _ _ _) (sym e ∙ read .command-at .ensures)
+read-judged read x answer p e judged = judged ∙ ap (judge _ _ _ _ _) (sym e ∙ read .command-at .ensures)
 
 returns : tie.Need-returns
 unfolding judge
-returns c =
-    let read = c .before .before .before .before in
+returns c p on =
+    let read = c .before .before .before in
     let entry = start read in
     let a = entry .args in
     let rest = drop (a .at) (now (a .page)) in
-    let by-slot = judged-end-by-slot (entry .pre .0) (omega (arith, entry .fits .p)) (entry .pre .1 .1) rest in
-    read-judged read _ _ (c .before .before .enum-told .given .1)
-    (c .judge-end .ensures ∙ ap (λ past. judgeEnd past (a .due) rest) (c .before .first-slot .ensures) ∙ by-slot)
+    let by-slot = judged-end-by-slot (entry .pre .0) (on .page) (on .slot) rest in
+    read-judged read _ _ p (c .before .enum-told .given .1)
+    (c .judge-end .ensures ∙ ap (λ past. judgeEnd past (a .due) rest) (on .ends) ∙ by-slot)
 
 returns-2 : tie.Need-returns-2
 unfolding judge
-returns-2 c =
+returns-2 c p on =
     let read = c .before .before .before .before in
-    read-judged read _ _ (c .before .before .v .given .1)
-    (c .judge-station .ensures (start read .args .after) (start read .pre .1 .1))
+    read-judged read _ _ p (c .before .before .v .given .1) (c .judge-station .ensures p (start read .args .after) on)
 
 returns-3 : tie.Need-returns-3
 unfolding judge
-returns-3 c =
-    read-judged (c .before .before .before .before) _ _ (c .before .before .m .given .1) (c .judge-move .ensures)
+returns-3 c p on =
+    read-judged (c .before .before .before .before) _ _ p (c .before .before .m .given .1) (c .judge-move .ensures)
 
 returns-4 : tie.Need-returns-4
 unfolding judge
-returns-4 c = read-judged (c .before .before .before) _ _ (c .before .number .given .1) refl
+returns-4 c p on =
+    read-judged (c .before .before .before .before) _ _ p (c .before .before .m2 .given .1) (c .judge-limited .ensures)
+
+returns-5 : tie.Need-returns-5
+unfolding judge
+returns-5 c p on = read-judged (c .before .before .before) _ _ p (c .before .number .given .1) refl
 
 pub judged-at-spec : {M : Type 1} → statement M
 judged-at-spec =
@@ -53,8 +57,8 @@ judged-at-spec =
     (tie.spec
     (λ c κs. search needs)
     (λ c. search needs)
-    (λ c. search needs)
     (λ c κs. search needs)
+    (λ c. search needs)
     (λ c κs. search needs)
     (λ c. search needs)
     (λ c κs. search needs)
@@ -64,4 +68,5 @@ judged-at-spec =
     returns
     returns-2
     returns-3
-    returns-4)
+    returns-4
+    returns-5)

@@ -69,8 +69,9 @@ module _ (read : tie.After-fetch) where
   known = read .before .before
 
   fetched : (r : Verdict) → read .fetch .result ≡ r
-      → Fetched (image known) (known .page-at .result) (read .fetch .last .1 .1 .1 .1 .0) r
-  fetched r e = subst (Fetched _ _ _) e (read .fetch .ensures)
+      → Fetched (begun known .args .query .strip) (image known) (known .page-at .result)
+      (read .fetch .last .1 .1 .1 .1 .1 .0) r
+  fetched r e = subst (Fetched _ _ _ _) e (read .fetch .ensures)
 
 -- The turns of a good page are known: it is taken in hand.
 module _ (limited : tie.After-turns-of) where
@@ -78,7 +79,7 @@ module _ (limited : tie.After-turns-of) where
   named = limited .before .before .before .before .before
 
   taken : Hand (q (known named)) (begun (known named) .args .count) (known named .page-at .result)
-      (now (begun (known named) .args .places)) (named .fetch .last .1 .1 .1 .1 .0) (limited .turns-of .result)
+      (now (begun (known named) .args .places)) (named .fetch .last .1 .1 .1 .1 .1 .0) (limited .turns-of .result)
       (known named .before .before .before .top .result) (tables (known named))
   taken = hand-image (begun (known named) .args .query) (image (known named)) (next (known named))
       (fetched named Good (limited .before .enum-told .given .1)) (limited .turns-of .ensures)

@@ -5,14 +5,14 @@ use Rattle.common.proofs.Ground.{_≡_, subst, _-_, arith, length, now, needs}
 use Rattle.image.specs.Image.{directoryOf}
 use Rattle.relax.specs.Cells.{memory}
 use Rattle.engine.specs.declared.Reference.{Reference}
-use Rattle.engine.specs.Standing.{serving, Referred}
+use Rattle.engine.specs.Standing.{Referred}
 use Rattle.engine.proofs.Running.{RunSoFar, run-start, run-more, nobody-ends, bad-ends}
 use Rattle.engine.proofs.run.run.Statement.{statement}
 use Rattle.engine.proofs.run.run.Tie as tie
 
 abbrev Inv-loop : tie.InvT-loop
 Inv-loop query image places layout₀ cells₀ waiting₀ queue₀ list₀ count₀ layout cells waiting queue list count =
-    RunSoFar (serving query image) image count places layout (memory cells waiting queue) list₀
+    RunSoFar query image count places layout (memory cells waiting queue) list₀
     list × ((length layout ≡ length layout₀) × (length cells ≡ length cells₀) × (length waiting ≡ length waiting₀)
     × (length queue ≡ length queue₀) × (length list ≡ length list₀))
 
@@ -35,7 +35,7 @@ module _ (made : tie.After-slice-known10 Inv-loop μ-loop) where
   CameTo =
       let args = loop .before .before .before .before .before .before .before .before .args in
       let left = referred .refer .last .1 .1 .1 .1 in
-      Referred (serving (args .query) (now (args .image))) (now (args .image))
+      Referred (args .query) (now (args .image))
       (loop .loop .count) (now (args .places)) (left .0) (memory (left .1 .0) (left .1 .1 .0) (left .1 .1 .1 .0))
       (loop .loop .list) (left .1 .1 .1 .1 .0)
 

@@ -1,0 +1,19 @@
+-- By the cases of the five tests, in the order of the definition.
+use Rattle.common.proofs.Ground.{needs, tests}
+use Rattle.commands.specs.Rules.{moveFault}
+use Rattle.commands.proofs.rules.move_fault.Statement.{statement}
+use Rattle.commands.proofs.rules.move_fault.Tie as tie
+
+pub move-fault-spec : {M : Type 1} → statement M
+unfolding moveFault
+move-fault-spec =
+    tie.close
+    (tie.spec
+    (λ c. search needs)
+    (λ c. search tests)
+    (λ c. search tests)
+    (λ c. search needs)
+    (λ c. search tests)
+    (λ c. search tests)
+    (λ c. search tests)
+    (λ c. search tests))
