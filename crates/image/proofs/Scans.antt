@@ -1,6 +1,7 @@
 -- One step of each scan over bytes: whether all is zero, and the first byte not below a limit. Each definition goes by
 -- the list's front, so that a step is one `drop-cons`.
-use Rattle.common.proofs.Ground.{_≡_, sym, Bool, false, dite, List, ℕ, _+_, _≤_, _<_, arith, ℕ-discrete, add-one}
+use Rattle.common.proofs.Ground.{_≡_, refl, sym, Bool, false, dite, List, [], _∷_, ℕ, suc, _+_, _≤_, _<_, arith}
+use Rattle.common.proofs.Ground.{ℕ-discrete, add-one}
 use Rattle.common.proofs.Ground.{add-zero, add-suc, suc-add, length, getD, drop, drop-of-length-le, drop-cons, eqb}
 use Rattle.common.proofs.Ground.{eq-eqb, ne-eqb, lt-ltb, le-ltb}
 use Rattle.common.proofs.Cases.{by-pick}
@@ -44,3 +45,11 @@ module _ (directory : List ℕ) (limit i : ℕ) where
   pub not-below-none : length directory ≤ i → notBelowFrom directory limit i ≡ i
   unfolding firstNotBelow
   not-below-none h = simp (drop-of-length-le directory h, add-zero)
+
+-- The greatest byte is below the limit: there is nothing to be found.
+pub all-below : (directory : List ℕ) (limit most : ℕ) → most < limit → ((v : ℕ) → getD directory v 0 ≤ most)
+    → firstNotBelow limit directory ≡ length directory
+unfolding firstNotBelow
+all-below [] limit most h above = refl
+all-below (d ∷ ds) limit most h above =
+    simp (lt-ltb d limit (omega (arith, above 0)), all-below ds limit most h (λ v. above (suc v)))

@@ -1,7 +1,7 @@
 // Numbers and parts of a byte slice. What lies past the end reads as 0, or as nothing.
 
 ghost use mathlib.Core.Path.{_≡_};
-ghost use Prim.Native.Nat.{_+_, _*_, _<_};
+ghost use Prim.Native.Nat.{ℕ, _+_, _*_, _≤_, _<_, max};
 ghost use lib.ListN.{length, getD, drop};
 ghost use Rattle.image.specs.Bytes.{word, part, allZero};
 
@@ -64,4 +64,26 @@ pub fn zero_from(s: &[u8], at: usize) -> bool
         i += 1;
     }
     sum == 0
+}
+
+// The greater of two bytes.
+fn greater(a: u8, b: u8) -> u8
+    ensures value { λ r. ⌜ r ≡ max a b ⌝ }
+{
+    if a < b { b } else { a }
+}
+
+// The greatest byte of a slice: one of its bytes, and none is above it. There is no branch for a byte here, so that many
+// are compared at a time.
+pub fn greatest(s: &[u8]) -> u8
+    ensures found { λ r. ⌜ ((at : ℕ) × (getD (now (s .entry)) at 0 ≡ r)) ⌝ }
+    ensures most { λ r. ⌜ ((at : ℕ) → getD (now (s .entry)) at 0 ≤ r) ⌝ }
+{
+    let mut most: u8 = 0;
+    let mut i: usize = 0;
+    while i < s.len() {
+        most = greater(most, s[i]);
+        i += 1;
+    }
+    most
 }

@@ -11,6 +11,7 @@ ghost use Rattle.image.specs.Image.{refused, headingCheck, placeOf, outc
 
 pub mod bytes;
 
+use bytes::greatest;
 use bytes::part_of;
 use bytes::word_at;
 
@@ -61,10 +62,14 @@ pub fn page_of(image: &[u8], p: u8) -> &[u8]
     part_of(image, from, 256)
 }
 
-// The lowest station whose byte is not below a limit, or the number of stations.
+// The lowest station whose byte is not below a limit, or the number of stations. As a rule all are below it, which the
+// greatest byte tells: then nothing has to be looked for.
 fn first_not_below(directory: &[u8], limit: usize) -> usize
     ensures value { λ r. ⌜ r ≡ firstNotBelow limit (now (directory .entry)) ⌝ }
 {
+    if (greatest(directory) as usize) < limit {
+        return directory.len();
+    }
     let mut i: usize = 0;
     while i < directory.len() {
         if limit <= directory[i] as usize {
