@@ -1,13 +1,8 @@
--- The line of a record's parts and of the reply to it is the record's line; and the reply is the same whatever stands
--- in the tables that the search is lent, as long as they have room for the map's stations or lack it alike.
-use Rattle.common.proofs.Ground.{_≡_, refl, List, ℕ}
-use Rattle.net.specs.Net.{Frame}
-use Rattle.net.specs.Search as net
-use Rattle.net.specs.Search.{State, Halt, going, dfSearch}
-use Rattle.image.specs.Image.{Outcome, accepted, refused, stationCount}
-use Rattle.search.specs.Reply.{Query, asked, frameOf, pagesOf, NetSearch, Lent, Reply, ended, tooShort, callCheck}
-use Rattle.search.specs.Reply.{onMap, afterCheck, searched}
-use Rattle.coil.specs.Line.{coilOf, lengthOf, stationOf, blank, lineOf, recordLine}
+-- The line of a record's parts and of the reply to it is the record's line.
+use Rattle.common.proofs.Ground.{_≡_, List, ℕ}
+use Rattle.net.specs.Search.{dfSearch}
+use Rattle.search.specs.Reply.{asked, blank, Reply, searched}
+use Rattle.coil.specs.Line.{coilOf, lengthOf, stationOf, lineOf, recordLine}
 
 pub line-of-record : (image bytes : List ℕ) {coil length station : ℕ} {reply : Reply} → coil ≡ coilOf bytes
     → length ≡ lengthOf bytes → station ≡ stationOf bytes
@@ -15,20 +10,3 @@ pub line-of-record : (image bytes : List ℕ) {coil length station : ℕ} {reply
     → lineOf coil length station reply ≡ recordLine image bytes
 unfolding recordLine
 line-of-record image bytes c l s r = rw (r, c, l, s)
-
-module _ (search : NetSearch) (q : Query) (t other : Lent) where
-  ended-alike : (h : Halt) (F : Frame) (s : State) → (ended h F s t) .reply ≡ (ended h F s other) .reply
-  ended-alike going F s = refl
-  ended-alike (net.refused number p offset) F s = refl
-
-  by-check : (o : Outcome) → (afterCheck search q t o) .reply ≡ (afterCheck search q other o) .reply
-  unfolding onMap
-  by-check (refused number place) = refl
-  by-check accepted =
-      let s = search (frameOf q) (pagesOf q) (q .source) in
-      ended-alike (s .halt) (frameOf q) s
-
-  pub reply-alike : tooShort (stationCount (q .image)) t ≡ tooShort (stationCount (q .image)) other
-      → (searched search q t) .reply ≡ (searched search q other) .reply
-  unfolding searched callCheck
-  reply-alike same = rw same (by-check (callCheck q other))

@@ -1,12 +1,11 @@
 -- The line that the program `coils` prints for a record (01, "Route, whole check, program"), as a list of bytes.
 use mathlib.Core.List.{List, _++_}
 use Prim.Native.Nat.{ℕ, _+_, _*_}
-use lib.ListN.{replicate}
 use Rattle.net.specs.Search.{dfSearch}
 use Rattle.image.specs.Bytes.{word}
 use Rattle.image.specs.Image.{Outcome, accepted, refused}
 use Rattle.text.specs.Text.{ascii, named}
-use Rattle.search.specs.Reply.{Reply, asked, Lent, lent, searched}
+use Rattle.search.specs.Reply.{Reply, asked, blank, searched}
 
 -- "Whole numbers are little-endian": the u32 at an offset.
 abbrev pub long : List ℕ → ℕ → ℕ
@@ -44,10 +43,6 @@ lineBy (refused number place) coil line = refusalLine coil number
 abbrev pub lineOf : ℕ → ℕ → ℕ → Reply → List ℕ
 lineOf coil length station r =
     lineBy (r .outcome) coil (acceptedLine coil length station (r .count) (r .reached))
-
--- Four tables with room for every map. What stands in them has no bearing on the reply (proofs/Answering.antt).
-abbrev pub blank : Lent
-blank = lent (replicate 2048 0) (replicate 2048 0) (replicate 2048 0) (replicate 2048 0)
 
 -- "Each record in turn gives the source of a DF search and one line". C-11: "the rule that length has no bearing on the
 -- way is withdrawn", and "Searches take a length": the record's.

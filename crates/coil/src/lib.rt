@@ -6,11 +6,13 @@ ghost use Prim.Native.Nat.{_≤_};
 ghost use lib.ListN.{length};
 ghost use Rattle.common.specs.Window.{placed};
 ghost use Rattle.net.specs.Search.{dfSearch};
-ghost use Rattle.search.specs.Reply.{asked, replyOf, searched};
-ghost use Rattle.coil.specs.Line.{blank, recordLine};
+ghost use Rattle.search.specs.Reply.{asked, blank, replyOf, searched};
+ghost use Rattle.coil.specs.Line.{recordLine};
 use lines::put_line;
 use records::record_of;
 use search::Answer;
+use search::own::TABLE;
+use search::own::df_times;
 
 mod lines;
 pub mod program;
@@ -24,19 +26,8 @@ fn search_from(image: &[u8], station: u16, strip: u16) -> Answer
     ensures reply { λ r. ⌜
         replyOf r ≡ (searched dfSearch (asked (now (image .entry)) station strip) blank) .reply ⌝ }
 {
-    let mut times = [0u32; 2048];
-    let mut preds = [0u16; 2048];
-    let mut marks = [0u8; 2048];
-    let mut list = [0u8; 2048];
-    search::calls::df(
-        image,
-        station,
-        strip,
-        &mut times,
-        &mut preds,
-        &mut marks,
-        &mut list,
-    )
+    let mut times = [0u32; TABLE];
+    df_times(image, station, strip, &mut times)
 }
 
 // Puts the record's line at the front of the buffer, and answers how many bytes it has; the bytes behind it are kept.

@@ -1,8 +1,8 @@
 -- A window of a table, written: how long the table is then, what is read back, and that a lent window, which comes back
--- between the entries before and behind it, is the window written.
-use Rattle.common.proofs.Ground.{_≡_, refl, ap, sym, _∙_, List, _++_, append-assoc, ℕ, _+_, _≤_, arith, length}
+-- between the entries before and behind it, is the window written. And an entry of a table.
+use Rattle.common.proofs.Ground.{_≡_, refl, ap, sym, _∙_, List, [], _∷_, _++_, append-assoc, ℕ, zero, suc, _+_}
 use Rattle.common.proofs.Ground.{take, drop, length-append, length-drop, take-at, drop-at, drop-drop}
-use Rattle.common.proofs.Ground.{length-take-le}
+use Rattle.common.proofs.Ground.{_≤_, _<_, arith, length, getD, length-take-le}
 use Rattle.common.specs.Window.{placed}
 
 module _ (table : List ℕ) (from : ℕ) (entries : List ℕ) where
@@ -29,3 +29,9 @@ module _ (table : List ℕ) (from : ℕ) (entries : List ℕ) where
 pub lent-front : (table entries : List ℕ) (size : ℕ) → length entries ≡ size
     → entries ++ drop size table ≡ placed table 0 entries
 lent-front table entries size e = lent-window table 0 entries size e
+
+-- An entry that is there does not depend on what is read past the end.
+pub any-default : (l : List ℕ) (i d e : ℕ) → i < length l → getD l i d ≡ getD l i e
+any-default [] i d e h = absurd (omega arith)
+any-default (x ∷ l) zero d e h = refl
+any-default (x ∷ l) (suc i) d e h = any-default l i d e (omega arith)

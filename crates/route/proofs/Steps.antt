@@ -1,15 +1,9 @@
 -- One step of a chain: it ends at the source, is lost, or goes on. Each follows from the two tests of the definition.
-use Rattle.common.proofs.Ground.{_≡_, refl, sym, _∙_, Bool, true, false, List, [], _∷_, _++_, ℕ, zero, suc, _<_, _≤_}
-use Rattle.common.proofs.Ground.{arith, length, getD, eqb, ltb, eq-eqb, ne-eqb, lt-ltb, le-ltb, eqb-true, eqb-false}
+use Rattle.common.proofs.Ground.{_≡_, refl, sym, _∙_, Bool, true, false, List, [], _∷_, _++_, ℕ, suc, _<_, _≤_}
+use Rattle.common.proofs.Ground.{arith, length, eqb, ltb, eq-eqb, ne-eqb, lt-ltb, le-ltb, eqb-true, eqb-false}
 use Rattle.common.proofs.Ground.{ltb-true, ltb-false}
 use Rattle.common.specs.Numbers.{sourceMark}
 use Rattle.route.specs.Route.{predecessorAt, Chain, whole, broken, lengthened, chain}
-
--- An entry that is there doesn't depend on what is read past the end.
-pub any-default : (l : List ℕ) (i d e : ℕ) → i < length l → getD l i d ≡ getD l i e
-any-default [] i d e h = absurd (omega arith)
-any-default (x ∷ l) zero d e h = refl
-any-default (x ∷ l) (suc i) d e h = any-default l i d e (omega arith)
 
 module _ (preds : List ℕ) (most v : ℕ) where
   pub chain-source : predecessorAt preds v ≡ sourceMark → chain preds (suc most) v ≡ whole (v ∷ [])

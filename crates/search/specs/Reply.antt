@@ -54,6 +54,14 @@ pub record Lent : Type 0 where
 abbrev pub lent : List ℕ → List ℕ → List ℕ → List ℕ → Lent
 lent t p m l = record { times = t; preds = p; marks = m; list = l }
 
+-- Tables of a caller's own, with room for every map: times, and zeros in the others. What stands in tables has no
+-- bearing on the reply (proofs/Lending.antt).
+abbrev pub roomy : List ℕ → Lent
+roomy times = lent times (replicate 2048 0) (replicate 2048 0) (replicate 2048 0)
+
+abbrev pub blank : Lent
+blank = roomy (replicate 2048 0)
+
 -- "Accepted: the answer has the list's count and the number of stations reached." A refusal has its number and place;
 -- "Page refusal: .. the answer gives count, page and offset". A number that a reply does not have is 0.
 pub record Reply : Type 0 where

@@ -4,6 +4,7 @@
 
 mod answers;
 pub mod calls;
+pub mod own;
 
 use image::Refusal;
 

@@ -1,9 +1,10 @@
 -- Station by station the entries that the cells show are written, and a table all of whose entries are written is the
 -- list of these.
 use Rattle.common.proofs.Ground.{_≡_, refl, sym, _∙_, Bool, dite, List, ℕ, _+_, _≤_, _<_, arith, ℕ-discrete, add-one}
-use Rattle.common.proofs.Ground.{length, getD, set, replicate, length-set, length-replicate, getD-replicate, drop-cons}
+use Rattle.common.proofs.Ground.{length, getD, set, replicate, length-set, length-replicate, getD-replicate}
 use Rattle.common.proofs.Ground.{getD-set-same, getD-set-other, ext-getD, ltb}
 use Rattle.common.specs.Numbers.{noTime}
+use Rattle.common.proofs.Windows.{any-default}
 use Rattle.net.specs.Net.{one, count}
 use Rattle.net.proofs.Basics.Count.{count-le}
 use Rattle.tables.specs.Finishing.{shown, timeIn, predIn, Shows, Finished}
@@ -65,9 +66,7 @@ pub shows-all : (f : ℕ → ℕ) (table target : List ℕ) (n d : ℕ) → leng
     → ((v : ℕ) → v < n → f v ≡ getD target v d) → table ≡ target
 shows-all f table target n d a b s e =
     ext-getD d table target (a ∙ sym b)
-    (λ v l.
-    let any-default : getD table v d ≡ getD table v 0 = cc (drop-cons table v d l, drop-cons table v 0 l) in
-    any-default ∙ s v (omega arith) ∙ e v (omega arith))
+    (λ v l. any-default table v d 0 l ∙ s v (omega arith) ∙ e v (omega arith))
 
 pub shows-one : (x : ℕ) (table : List ℕ) (n : ℕ) → length table ≡ n → Shows (λ v. x) n table → table ≡ replicate n x
 shows-one x table n a s =

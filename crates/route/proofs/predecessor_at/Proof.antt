@@ -1,6 +1,6 @@
 -- `route::predecessor_at` reads the entry where there is one, and past the end the definition's default.
 use Rattle.common.proofs.Ground.{sym, List·getD-eq-default, now, needs}
-use Rattle.route.proofs.Steps.{any-default}
+use Rattle.common.proofs.Windows.{any-default}
 use Rattle.route.proofs.predecessor_at.Statement.{statement}
 use Rattle.route.proofs.predecessor_at.Tie as tie
 
