@@ -1,7 +1,7 @@
 -- What a judgement says of a command: one that passes is the command read, and it keeps its rules; and a command read
 -- that keeps its rules passes. Each rule is a test of numbers, so every fact follows by the cases of the tests.
 use Rattle.common.proofs.Ground.{_≡_, _≢_, refl, subst, true, List, ℕ, _+_, _≤_, _<_, arith, drop, eqb, ltb, leb}
-use Rattle.common.proofs.Ground.{leb-false, ltb-false, eqb-true, eqb-false, ne-eqb, tests}
+use Rattle.common.proofs.Ground.{leb-false, ltb-true, ltb-false, eqb-true, eqb-false, ne-eqb, tests}
 use Rattle.common.proofs.Cases.{by-pick}
 use Rattle.commands.specs.declared.Move.{Move}
 use Rattle.commands.specs.declared.Command.{Command}
@@ -10,7 +10,7 @@ use Rattle.image.specs.Bytes.{allZero}
 use Rattle.commands.specs.Commands.{commandAt}
 use Rattle.commands.specs.Rules.{judgeEnd, judgeStation, moveFault, judgeMove, judgeLimited, judge}
 use Rattle.commands.specs.Rules.{judgedAt}
-use Rattle.commands.proofs.Lengths.{MoveStands, Stands, stands}
+use Rattle.commands.proofs.Lengths.{OfPage, Stands, stands}
 
 -- The rules that a move keeps: 11, 12 and 13, and a `03` 18.
 pub record MoveKeeps (size after least code : ℕ) (m : Move) : Type 0 where
@@ -40,6 +40,16 @@ module _ (size after least : ℕ) (m : Move) where
         limited = limited;
       })
 
+  fault-of-page : 0 < moveFault size after least m → OfPage (moveFault size after least m)
+  unfolding moveFault
+  fault-of-page =
+      let Numbered : ℕ → Type 0 = λ fault. 0 < fault → OfPage fault in
+      by-pick Numbered (eqb after 0) (λ none some. tt) λ begun.
+      by-pick Numbered (leb size (m .target)) (λ past some. tt) λ below.
+      by-pick Numbered (eqb (m .target + 1) after) (λ own some. tt) λ other.
+      by-pick Numbered (ltb (m .target) least) (λ falling some. tt) λ rising.
+      by-pick Numbered (eqb (m .time) 0) (λ no-time some. tt) (λ timed some. absurd (omega arith))
+
   no-fault : (code : ℕ) → MoveKeeps size after least code m → moveFault size after least m ≡ 0
   unfolding moveFault
   no-fault code k = search tests
@@ -53,7 +63,7 @@ module _ (page : List ℕ) (at size due after least : ℕ) where
   Keeps (Limited m) = MoveKeeps size after least 3 m
   Keeps (Fault number) = Unit {0}
 
-  -- What is known of a command that passes: it stands there and keeps its rules. Of a fault nothing is.
+  -- What is known of a command that passes: it stands there and keeps its rules. Of a fault its number is.
   abbrev pub Judged : Command → Type 0
   Judged x = Stands page at x × Keeps x
 
@@ -71,16 +81,16 @@ module _ (page : List ℕ) (at size due after least : ℕ) where
       (λ other. (tt, tt))
   judged-cases (MoveTo m) s =
       let fault = moveFault size after least m in
-      by-pick Judged (ltb 0 fault) (λ some. (tt, tt)) (λ none.
+      by-pick Judged (ltb 0 fault) (λ some. (fault-of-page size after least m (ltb-true 0 fault some), tt)) (λ none.
       let kept : fault ≡ 0 = omega (arith, ltb-false 0 fault none) in
       (s, kept-by size after least m 2 (λ e. absurd (omega arith)) kept))
   judged-cases (Limited m) s =
       let fault = moveFault size after least m in
-      by-pick Judged (ltb 0 fault) (λ some. (tt, tt)) λ none.
+      by-pick Judged (ltb 0 fault) (λ some. (fault-of-page size after least m (ltb-true 0 fault some), tt)) λ none.
       by-pick Judged (eqb (m .limit) 0) (λ lacking. (tt, tt)) (λ limited.
       let kept : fault ≡ 0 = omega (arith, ltb-false 0 fault none) in
       (s, kept-by size after least m 3 (λ e. eqb-false (m .limit) 0 limited) kept))
-  judged-cases (Fault number) s = (tt, tt)
+  judged-cases (Fault number) s = (s, tt)
 
   pub judged : {x : Command} → judgedAt page at size due after least ≡ x → Judged x
   unfolding judgedAt

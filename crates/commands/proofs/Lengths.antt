@@ -1,8 +1,10 @@
 -- Commands at an offset: the table of their lengths, what stands there if one is read, and each command by its code.
-use Rattle.common.proofs.Ground.{_≡_, _≢_, refl, subst, _⊎_, inl, inr, dite, List, ℕ, zero, suc, _+_, _≤_, _<_, arith}
-use Rattle.common.proofs.Ground.{ℕ-discrete, length, getD, lit≤, eqb, ltb, leb, ltb-false, eqb-true, eqb-false, eq-eqb}
-use Rattle.common.proofs.Ground.{ne-eqb, lt-leb, le-ltb, lt-ltb}
+use Rattle.common.proofs.Ground.{_≡_, refl, subst, _&&_, _⊎_, inl, inr, List, ℕ, zero, suc, _+_, _≤_, _<_, arith}
+use Rattle.common.proofs.Ground.{length, getD, lit≤, eqb, ltb, leb, ltb-false, eqb-true, eqb-false, lt-leb, le-ltb}
+use Rattle.common.proofs.Ground.{lt-ltb}
 use Rattle.common.proofs.Cases.{by-pick}
+use lib.Dec.{T, leb→le}
+use lib.Ieee.Fits.{and-l, and-r}
 use Rattle.commands.specs.declared.Move.{Move}
 use Rattle.commands.specs.declared.Command.{Command}
 use Rattle.commands.specs.declared.Command.the-variants.{End, Station, MoveTo, Limited, Fault}
@@ -32,13 +34,24 @@ pub record MoveStands (page : List ℕ) (at code : ℕ) (m : Move) : Type 0 wher
   pub unlimited : code ≡ 2 → m .limit ≡ 0
   pub limit : code ≡ 3 → word page (at + 5) ≡ m .limit
 
--- What was read as a command stands there: it ends within the page, and its code and its numbers are these.
+-- The numbers that a page's refusals have, by a test, and what it says.
+abbrev pub OfPage : ℕ → Type 0
+OfPage number = T (leb 8 number && leb number 18)
+
+pub of-page : (number : ℕ) → OfPage number → (8 ≤ number) × (number ≤ 18)
+of-page number k =
+    let least = leb 8 number in
+    let most = leb number 18 in
+    (leb→le 8 number (and-l least most k), leb→le number 18 (and-r least most k))
+
+-- What was read as a command stands there: it ends within the page, and its code and its numbers are these. Of a fault
+-- its number is known.
 abbrev pub Stands : List ℕ → ℕ → Command → Type 0
 Stands page at End = (at + lengthOf 0 ≤ length page) × (getD page at 0 ≡ 0)
 Stands page at (Station v) = (at + lengthOf 1 ≤ length page) × (getD page at 0 ≡ 1) × (word page (at + 1) ≡ v)
 Stands page at (MoveTo m) = MoveStands page at 2 m
 Stands page at (Limited m) = MoveStands page at 3 m
-Stands page at (Fault number) = Unit {0}
+Stands page at (Fault number) = OfPage number
 
 module _ (page : List ℕ) (at : ℕ) where
   abbrev code : ℕ

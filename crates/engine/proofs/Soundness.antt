@@ -1,7 +1,7 @@
 -- A well-formed image is a sound net: every move of a good page weighs 1 to 65,535 and leads to a station of the map.
 use Rattle.common.proofs.Ground.{_≡_, refl, ap, ⊎-elim, List, [], _∷_, map, List·Memᴰ, List·Memᴰ·cases-cons}
 use Rattle.common.proofs.Ground.{List·Memᴰ·not-nil, ℕ, _+_, _≤_, _<_, arith, length, getD}
-use Rattle.net.specs.Net.{movesOf, Move as NetMove}
+use Rattle.net.specs.Net.{Goes, movesOf, Move as NetMove}
 use Rattle.net.proofs.Sound.{Sound}
 use Rattle.net.proofs.Laws.{map-sound}
 use Rattle.commands.specs.declared.Move.{Move}
@@ -38,11 +38,16 @@ module _ (strip : ℕ) (image : List ℕ) (bytes : Bytes image) where
       (rw (open-to-0 own) at (offers-shorter {shorter = 0} {strip = strip} (omega arith) (good moves stations) u m))
   goes-good u v w p (bad number offset) e m = absurd (List·Memᴰ·not-nil m)
 
+  pub goes-within : (u v w : ℕ) → Goes (mapFrame image) (mapPage strip image) u v w
+      → (0 < w) × (w ≤ 65535) × (v < length (directoryOf image))
+  unfolding mapPage
+  goes-within u v w goes =
+      let p = getD (directoryOf image) u 0 in
+      goes-good u v w p (readingOf image p) refl goes
+
   pub image-sound : headingCheck image ≡ accepted → (source : ℕ) → source < length (directoryOf image)
       → Sound (mapFrame image) (mapPage strip image) source
-  unfolding mapPage
   image-sound h source s =
       let f = formed image h in
       map-sound (mapFrame image) (mapPage strip image) source (omega (arith, f .directory, f .stations-most)) refl s
-      (λ u v w g.
-      goes-good u v w (getD (directoryOf image) u 0) (readingOf image (getD (directoryOf image) u 0)) refl g)
+      goes-within

@@ -1,11 +1,12 @@
 -- What an accepted heading and directory say of an image: refusals 1 to 5, each turned round. A check that is
--- accepted has passed its first test, and the checks that follow it are accepted too.
+-- accepted has passed its first test, and the checks that follow it are accepted too. And what the check can say at
+-- all.
 use Rattle.common.proofs.Ground.{_≡_, true, false, not, _||_, dite, List, [], _∷_, ℕ, zero, suc, _+_, _*_, _≤_, _<_}
 use Rattle.common.proofs.Ground.{arith, ℕ-discrete, length, getD, drop, length-drop, length-take-le, eqb, ltb, ltb-true}
-use Rattle.common.proofs.Ground.{ltb-false, eq-eqb, ne-eqb, eqb-true, not-false}
+use Rattle.common.proofs.Ground.{ltb-false, eq-eqb, ne-eqb, eqb-true, not-false, lit≤}
 use Rattle.common.proofs.Cases.{by-pick, never}
-use Rattle.image.specs.Image.{Outcome, accepted, stationCount, pageCount, directoryOf, pageBytes, firstNotBelow}
-use Rattle.image.specs.Image.{headingCheck}
+use Rattle.image.specs.Image.{Outcome, accepted, refused, nowhere, at-station, stationCount, pageCount}
+use Rattle.image.specs.Image.{directoryOf, pageBytes, firstNotBelow, headingCheck}
 
 pub record Formed (image : List ℕ) : Type 0 where
   pub heading : 4 ≤ length image
@@ -69,3 +70,18 @@ formed image e =
           length-take-le 256 (drop (4 + N + 256 * p) image) (omega (arith, length-drop (4 + N + 256 * p) image));
     })))))
     e
+
+-- What the check can say: accepted; 1 to 4, with no place; or 5 with a station.
+pub heading-says : (Says : Outcome → Type 0) → ((number : ℕ) → number ≤ 4 → Says (refused number nowhere))
+    → ((station : ℕ) → Says (refused 5 (at-station station))) → Says accepted → (image : List ℕ)
+    → Says (headingCheck image)
+unfolding headingCheck
+heading-says Says early five whole image =
+    let N = stationCount image in
+    let P = pageCount image in
+    let first-bad = firstNotBelow P (directoryOf image) in
+    by-pick Says (ltb (length image) 4) (λ refuse. early 1 (lit≤ tt)) λ one.
+    by-pick Says (eqb N 0 || ltb 2048 N) (λ refuse. early 2 (lit≤ tt)) λ two.
+    by-pick Says (eqb P 0 || ltb 240 P) (λ refuse. early 3 (lit≤ tt)) λ three.
+    by-pick Says (not (eqb (length image) (4 + N + 256 * P))) (λ refuse. early 4 (lit≤ tt)) λ four.
+    by-pick Says (ltb first-bad N) (λ refuse. five first-bad) (λ pass. whole)

@@ -1,19 +1,20 @@
--- Where a page's fault can stand: within the page or right behind it, so that its offset is 256 at most. By induction
--- over the commands read, each of which ends within the page.
-use Rattle.common.proofs.Ground.{not, _||_, List, ℕ, zero, suc, _+_, _*_, _≤_, arith, length, ltb, eqb}
-use Rattle.common.proofs.Cases.{by-pick}
+-- Where a page's fault can stand: within the page or right behind it, so that its offset is 256 at most; and which
+-- number it has. By induction over the commands read, each of which ends within the page.
+use Rattle.common.proofs.Ground.{List, ℕ, zero, suc, _≤_, arith, length}
 use Rattle.commands.specs.declared.Move.{Move}
-use Rattle.image.specs.Image.{Outcome, accepted, refused, nowhere, at-station, on-page, headingCheck, stationCount}
-use Rattle.image.specs.Image.{pageCount, directoryOf, pageBytes, firstNotBelow}
+use Rattle.commands.proofs.Lengths.{OfPage}
+use Rattle.image.specs.Image.{Outcome, accepted, refused, nowhere, at-station, on-page, headingCheck}
+use Rattle.image.specs.Image.{pageCount, directoryOf, pageBytes}
 use Rattle.page.specs.Reading.{Reading, good, bad, withMove, withStation, readPage}
 use Rattle.page.specs.Check.{readingOf, pageOutcome, pagesFrom, afterHeading, wholeCheck}
 use Rattle.image.proofs.Parts.{page-short}
+use Rattle.image.proofs.Heading.{heading-says}
 use Rattle.page.proofs.Reading.Steps.{by-commands}
 
--- A reading whose fault, if it has one, stands at an offset up to a limit.
+-- A reading whose fault, if it has one, has a page's number and stands at an offset up to a limit.
 abbrev pub FaultBy : ℕ → Reading → Type 0
 FaultBy limit (good moves stations) = Unit {0}
-FaultBy limit (bad number offset) = offset ≤ limit
+FaultBy limit (bad number offset) = OfPage number × (offset ≤ limit)
 
 module _ (limit : ℕ) where
   after-station : (v : ℕ) (r : Reading) → FaultBy limit r → FaultBy limit (withStation v r)
@@ -29,7 +30,7 @@ page-in : (directory : List ℕ) (p : ℕ) (page : List ℕ) (limit : ℕ) → l
 unfolding readPage
 page-in directory p page limit short =
     by-commands directory p page (λ at after least r. at ≤ limit → FaultBy limit r)
-    (λ at after least number h. h)
+    (λ at after least number known h. (known, h))
     (λ at after least j h. tt)
     (λ at after least v j r k h. after-station limit v r (k (omega arith)))
     (λ at after least code m j r k h. after-move limit m r (k (omega (arith, j .0 .ends))))
@@ -48,20 +49,12 @@ module _ (image : List ℕ) where
   reading-by-256 p = page-in (directoryOf image) p (pageBytes image p) 256 (page-short image p)
 
   heading-by-256 : PlaceBy256 (headingCheck image)
-  unfolding headingCheck
-  heading-by-256 =
-      let N = stationCount image in
-      let P = pageCount image in
-      by-pick PlaceBy256 (ltb (length image) 4) (λ t. tt) λ f.
-      by-pick PlaceBy256 (eqb N 0 || ltb 2048 N) (λ t. tt) λ f.
-      by-pick PlaceBy256 (eqb P 0 || ltb 240 P) (λ t. tt) λ f.
-      by-pick PlaceBy256 (not (eqb (length image) (4 + N + 256 * P))) (λ t. tt) λ f.
-      by-pick PlaceBy256 (ltb (firstNotBelow P (directoryOf image)) N) (λ t. tt) (λ f. tt)
+  heading-by-256 = heading-says PlaceBy256 (λ number l. tt) (λ station. tt) tt image
 
   page-by-256 : (p : ℕ) (r : Reading) (following : Outcome) → FaultBy 256 r → PlaceBy256 following
       → PlaceBy256 (pageOutcome p r following)
   page-by-256 p (good moves stations) following k l = l
-  page-by-256 p (bad number offset) following k l = k
+  page-by-256 p (bad number offset) following k l = k .1
 
   pages-by-256 : (count p : ℕ) → PlaceBy256 (pagesFrom image count p)
   unfolding pagesFrom

@@ -1,11 +1,11 @@
 -- Refusals 1 to 7: what a call that they do not refuse has, and that they name no page.
-use Rattle.common.proofs.Ground.{_≡_, refl, Bool, true, false, not, _||_, List, ℕ, _+_}
-use Rattle.common.proofs.Ground.{_*_, _≤_, _<_, arith, length, ltb, leb, eqb, lt-leb, ltb-false}
-use Rattle.common.proofs.Ground.{leb-false}
+use Rattle.common.proofs.Ground.{_≡_, refl, Bool, true, false, not, _||_, List, ℕ}
+use Rattle.common.proofs.Ground.{_≤_, _<_, arith, length, ltb, leb, lt-leb, ltb-false, leb-false}
 use Rattle.common.specs.Pick.{pick}
 use Rattle.common.proofs.Cases.{never}
 use Rattle.image.specs.Image.{Outcome, accepted, refused, Place, nowhere, at-station, on-page}
-use Rattle.image.specs.Image.{stationCount, pageCount, directoryOf, firstNotBelow, headingCheck}
+use Rattle.image.specs.Image.{stationCount, headingCheck}
+use Rattle.image.proofs.Heading.{heading-says}
 use Rattle.page.specs.Check.{afterHeading}
 use Rattle.search.specs.Reply.{Query, Lent, tooShort, callCheck}
 
@@ -16,18 +16,8 @@ NamesNoPage (refused number nowhere) = Unit {0}
 NamesNoPage (refused number (at-station station)) = Unit {0}
 NamesNoPage (refused number (on-page p offset)) = ⊥
 
-either : (b : Bool) (x y : Outcome) → NamesNoPage x → NamesNoPage y → NamesNoPage (pick b x y)
-either true x y k l = k
-either false x y k l = l
-
 heading-names-no-page : (image : List ℕ) → NamesNoPage (headingCheck image)
-unfolding headingCheck
-heading-names-no-page image =
-    either (ltb (length image) 4) _ _ tt
-    (either (eqb (stationCount image) 0 || ltb 2048 (stationCount image)) _ _ tt
-    (either (eqb (pageCount image) 0 || ltb 240 (pageCount image)) _ _ tt
-    (either (not (eqb (length image) (4 + stationCount image + 256 * pageCount image))) _ _ tt
-    (either (ltb (firstNotBelow (pageCount image) (directoryOf image)) (stationCount image)) _ _ tt tt))))
+heading-names-no-page = heading-says NamesNoPage (λ number l. tt) (λ station. tt) tt
 
 -- 1 to 7 do not refuse the call.
 pub record Admitted (q : Query) (t : Lent) : Type 0 where

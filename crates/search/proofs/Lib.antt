@@ -1,5 +1,5 @@
 -- The laws behind the functions' proofs: refusals 1 to 7, the tables written at the end, what lent tables have no
--- bearing on, and the promises.
+-- bearing on, and the promises; and of all searches the numbers of their refusals and their greatest time.
 
 pub mod Checking
 pub mod Searches
@@ -7,3 +7,5 @@ pub mod Written
 pub mod Ending
 pub mod Lending
 pub mod Promising
+pub mod Refusals
+pub mod Greatest

@@ -4,7 +4,6 @@ use Rattle.common.proofs.Ground.{_≡_, refl, Bool, true, false, _||_, List, []
 use Rattle.common.proofs.Ground.{length-append, ltb, leb, eqb, ltb-false}
 use Rattle.common.specs.Numbers.{sourceMark, noPred}
 use Rattle.common.specs.Pick.{pick}
-use Rattle.common.proofs.Cases.{never}
 use Rattle.net.specs.Net.{bad}
 use Rattle.net.specs.Search as net
 use Rattle.net.specs.Search.{State, Halt, going, reached, hasTime}
@@ -12,14 +11,12 @@ use Rattle.net.specs.Run.{searchOf}
 use Rattle.net.proofs.Basics.Count.{count-le}
 use Rattle.image.specs.Bytes.{Bytes}
 use Rattle.image.specs.Image.{Outcome, accepted, refused, Place, nowhere, at-station, on-page}
-use Rattle.page.specs.Reading as page
-use Rattle.page.specs.Reading.{Reading}
-use Rattle.page.specs.Check.{readingOf, wholeCheck}
-use Rattle.page.proofs.Offsets.{FaultBy, reading-by-256, PlaceBy256, whole-by-256}
+use Rattle.page.specs.Check.{wholeCheck}
+use Rattle.page.proofs.Offsets.{PlaceBy256, whole-by-256}
 use Rattle.route.specs.Route as route
 use Rattle.route.specs.Route.{Chain, whole, broken, lengthened, chain, predecessorAt}
 use Rattle.route.specs.Route.{found, noRoute, fitted, outcome, handedBack, routeCall}
-use Rattle.engine.specs.Map.{offered, mapPage}
+use Rattle.engine.proofs.Offered.{bad-page}
 use Rattle.search.specs.Reply.{Query, frameOf, pagesOf, Lent, ended, callCheck, onMap, afterCheck, searched}
 use Rattle.search.proofs.Checking.{NamesNoPage, Admitted, Decided, turned-down, passed, decided}
 use Rattle.search.proofs.Searches.{few-stations, refused-of, short-of}
@@ -47,17 +44,6 @@ small-place number nowhere k = no-numbers number 0
 small-place number (at-station station) k = no-numbers number station
 small-place number (on-page p offset) k = absurd k
 
--- a page that is bad was read to a fault
-offered-by : (strip : ℕ) (r : Reading) (number offset : ℕ) → offered strip r ≡ bad number offset → FaultBy 256 r
-    → offset ≤ 256
-offered-by strip (page.good moves stations) number offset e k = never (cc)
-offered-by strip (page.bad n o) number offset e k = let same : o ≡ offset = cc in omega arith
-
-page-by : (strip : ℕ) (image : List ℕ) (p number offset : ℕ) → mapPage strip image p ≡ bad number offset
-    → offset ≤ 256
-unfolding mapPage
-page-by strip image p number offset e = offered-by strip (readingOf image p) number offset e (reading-by-256 image p)
-
 module _ (q : Query) (t : Lent) where
   ended-small : (h : Halt) (s : State) → s .halt ≡ h → (frameOf q) .size ≤ 2048 → length (s .pages) ≤ (frameOf q) .size
       → ((number p offset : ℕ) → s .halt ≡ net.refused number p offset → pagesOf q p ≡ bad number offset)
@@ -68,7 +54,7 @@ module _ (q : Query) (t : Lent) where
       (omega (arith, count-le (hasTime (frameOf q) s) ((frameOf q) .size))) (omega arith)
   ended-small (net.refused number p offset) s e few short why =
       sized number (length (s .pages)) 0 p offset (omega arith) (omega arith)
-      (page-by (q .strip) (q .image) p number offset (why number p offset e))
+      (bad-page (q .strip) (q .image) p number offset (why number p offset e) .2)
 
   on-map-small : (df : Bool) → Admitted q t → Bytes (q .image) → Small (ofSearch ((onMap (searchOf df) q t) .reply))
   unfolding onMap

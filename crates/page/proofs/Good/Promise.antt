@@ -95,7 +95,7 @@ module _ (directory : List ℕ) (p : ℕ) (page : List ℕ) (bytes : Bytes page)
   promise moves stations e =
       let k : Kept 0 0 0 (good moves stations) =
       subst (Kept 0 0 0) e
-      (by-commands directory p page Kept (λ at after least number. tt) kept-end kept-station kept-move _ 0 0 0) in
+      (by-commands directory p page Kept (λ at after least number known. tt) kept-end kept-station kept-move _ 0 0 0) in
       let none : moves ≡ [] = k .none-before refl in
       record {
         none-before = none;

@@ -7,7 +7,7 @@ use Rattle.commands.specs.declared.Command.the-variants.{End, Station, MoveTo, 
 use Rattle.page.specs.Reading.{Reading, good, bad, withMove, withStation, readFrom}
 use Rattle.commands.specs.Commands.{lengthOf, widthOf}
 use Rattle.commands.specs.Rules.{nextOn, judgedAt}
-use Rattle.commands.proofs.Lengths.{MoveStands}
+use Rattle.commands.proofs.Lengths.{MoveStands, OfPage}
 use Rattle.commands.proofs.Judging.{MoveKeeps, Keeps, Judged, judged}
 
 -- A command that is a move of a code.
@@ -62,7 +62,7 @@ module _ (directory : List ℕ) (p : ℕ) (page : List ℕ) where
       ap (λ n. readFrom directory p page n at after least) one ∙ ap (reading (commands - 1) at after least) e
 
   module _ (Holds : ℕ → ℕ → ℕ → Reading → Type 0)
-      (fault : (at after least number : ℕ) → Holds at after least (bad number at))
+      (fault : (at after least number : ℕ) → OfPage number → Holds at after least (bad number at))
       (end : (at after least : ℕ) → Found at after least End → Holds at after least (good [] []))
       (station : (at after least v : ℕ) → Found at after least (Station v) → (r : Reading)
       → Holds (at + widthOf (Station v)) (v + 1) 0 r → Holds at after least (withStation v r))
@@ -75,12 +75,12 @@ module _ (directory : List ℕ) (p : ℕ) (page : List ℕ) where
     by-command commands at after least (Station v) j behind = station at after least v j _ (behind _ _ _)
     by-command commands at after least (MoveTo m) j behind = move at after least 2 m j _ (behind _ _ _)
     by-command commands at after least (Limited m) j behind = move at after least 3 m j _ (behind _ _ _)
-    by-command commands at after least (Fault number) j behind = fault at after least number
+    by-command commands at after least (Fault number) j behind = fault at after least number (j .0)
 
     pub by-commands : (commands at after least : ℕ)
         → Holds at after least (readFrom directory p page commands at after least)
     unfolding readFrom
-    by-commands zero at after least = fault at after least 9
+    by-commands zero at after least = fault at after least 9 tt
     by-commands (suc commands) at after least =
         by-command commands at after least (foundAt at after least)
         (judged page at (length directory) (nextOn directory p after) after least refl) (by-commands commands)
