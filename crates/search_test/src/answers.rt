@@ -1,15 +1,10 @@
 // The text of an answer: `accepted, count 3, reached 7`, or the refusal's number with the place that it names.
 
+use cases_io::print_number;
 use image::Place;
 use image::Refusal;
 use libc::STDOUT_FILENO;
 use search::Answer;
-
-// Prints a number behind some text.
-pub fn print_number(before: &[u8], number: u64) {
-    io::write_all(STDOUT_FILENO, before);
-    io::print_decimal(STDOUT_FILENO, number);
-}
 
 fn print_accepted(count: usize, reached: usize) {
     print_number(b"accepted, count ", count as u64);

@@ -3,7 +3,7 @@
 // A table is printed as runs of equal entries, such as `0 4 187*5`. One of more than 64 runs is printed as its length,
 // a digest of all its entries, and its last run. So an entry that a search ought to keep shows if it was written.
 
-use super::answers::print_number;
+use cases_io::print_number;
 use libc::STDOUT_FILENO;
 
 // What stands in the tables before a call. No search writes these, but for page 187 on a map of so many pages.

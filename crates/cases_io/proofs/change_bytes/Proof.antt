@@ -1,10 +1,10 @@
--- `search_test::change_bytes` is safe and ends. From turn to turn the image keeps its length; the measure is the
+-- `cases_io::change_bytes` is safe and ends. From turn to turn the image keeps its length; the measure is the
 -- number of changes that are left.
 use borrow.Author.Needs.{needs}
 use mathlib.Core.Path.{_≡_}
 use lib.ListN.{length}
-use Rattle.search_test.proofs.change_bytes.Statement.{statement}
-use Rattle.search_test.proofs.change_bytes.Tie as tie
+use Rattle.cases_io.proofs.change_bytes.Statement.{statement}
+use Rattle.cases_io.proofs.change_bytes.Tie as tie
 
 abbrev Inv-loop : tie.InvT-loop
 Inv-loop image₀ changes left₀ image left = length image ≡ length image₀
