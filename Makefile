@@ -18,11 +18,12 @@ cases: layers
 	@python3 tests/make_page_cases.py --check
 	@python3 tests/make_search_cases.py --check
 	@python3 tests/make_route_cases.py --check
+	@python3 tests/make_panel_cases.py --check
 	@python3 tests/make_coils_examples.py --check
 
 # What would look at page bytes, by the names that the sources use: a slice under another name escapes this.
 LOOKS := \b(page|image)\[|(byte_at|word_at|part_of|command_at)\((page|image)\b
-ABOVE_COMMANDS := layout queue relax page engine tables search coil yard
+ABOVE_COMMANDS := layout queue relax page engine tables search panel coil yard
 
 # Looks in the sources of the crates above commands for an index of, or a byte read from, a slice called page or image.
 layers:
@@ -48,9 +49,10 @@ libyard:
 
 C99 := $(CC) -std=c99 -O2 -Wall -Wextra -Werror -pedantic -Iinclude
 
-# Builds the C program of README.md and runs it: each of its statuses 0 to 3, and strips that a way is closed to (needs C).
+# Builds the C programs way and panel and runs them: each status 0 to 3, and strips that a way is closed to (needs C).
 c-example: libyard
 	$(C99) -o target/way examples/way.c target/staticlib/libyard.a
+	$(C99) -o target/panel examples/panel.c target/staticlib/libyard.a
 	target/way crates/coils/data/yard.map 0 6
 	target/way examples/plate/yard.map 396 0; test $$? = 1
 	target/way crates/coils/data/yard.map 0 -1; test $$? = 2
@@ -58,6 +60,15 @@ c-example: libyard
 	target/way examples/plate/yard.map 203 202 8440
 	target/way examples/plate/yard.map 203 202 8441
 	target/way examples/plate/yard.map 203 204 12001; test $$? = 3
+	target/panel crates/coils/data/yard.map 0 6
+	target/panel crates/coils/data/yard.map 0 7; test $$? = 1
+	target/panel crates/coils/data/yard.map 7 0; test $$? = 1
+	target/panel examples/plate/yard.map 396 0; test $$? = 1
+	target/panel crates/coils/data/yard.map 0 65536; test $$? = 2
+	target/panel crates/coils/data/yard.map 6 0; test $$? = 3
+	target/panel examples/plate/yard.map 203 202 8440
+	target/panel examples/plate/yard.map 203 202 8441
+	target/panel examples/plate/yard.map 203 204 12001; test $$? = 3
 
 # Measures the stack of each call of the C interface, on full and on damaged maps (needs a C compiler and ucontext).
 stack: libyard

@@ -1,10 +1,11 @@
-//! The benchmark: both searches and the whole check through the C interface, against Dijkstra's search as one writes it
-//! in Rust without proofs (`baseline.rs`) and, where they are built in, an earlier build of the library (`base.rs`) and
-//! other libraries (`peers.rs`). Takes the number of rounds as its argument and prints Markdown tables.
+//! The benchmark: the searches, the whole check and the panel through the C interface, against Dijkstra's search as one
+//! writes it in Rust without proofs (`baseline.rs`) and, where they are built in, an earlier build of the library
+//! (`base.rs`) and other libraries (`peers.rs`). Takes the number of rounds as its argument and prints Markdown tables.
 
 #[cfg(base)]
 mod base;
 mod baseline;
+mod calls;
 mod contestants;
 mod maps;
 #[cfg(peers)]
@@ -12,7 +13,6 @@ mod peers;
 mod rounds;
 mod tables;
 mod timing;
-mod whole;
 
 use contestants::Name;
 use rounds::Measured;
@@ -42,7 +42,7 @@ fn main() {
         tables::print_ratios(&groups, rivals);
     }
     tables::print_lists(&groups);
-    whole::print_table(rounds);
+    calls::print_tables(rounds);
 }
 
 fn measure(group: maps::Group, rounds: usize) -> Group {

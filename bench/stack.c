@@ -54,6 +54,11 @@ static void route(void)
     returned = yard_route(preds, preds_len, station, way, way_len, answer, 4);
 }
 
+static void panel(void)
+{
+    returned = yard_panel_refusal(yard_panel(image, image_len, source, length, station));
+}
+
 /* What was seen of a call: the most bytes, and how often it was accepted and refused. */
 struct seen {
     const char *name;
@@ -67,6 +72,7 @@ static struct seen of_check = {"yard_check", check, 0, 0, 0};
 static struct seen of_plain = {"yard_plain", plain, 0, 0, 0};
 static struct seen of_df = {"yard_df", df, 0, 0, 0};
 static struct seen of_route = {"yard_route", route, 0, 0, 0};
+static struct seen of_panel = {"yard_panel", panel, 0, 0, 0};
 
 /* The bytes from the lowest one that is no longer paint to the stack's end, after the call on a stack of that paint. */
 static size_t used_on(uint8_t paint, void (*call)(void))
@@ -157,7 +163,18 @@ static void put_full_map(uint32_t kind)
     }
 }
 
-/* The four calls on the map in hand; the route on the predecessors that the DF search left, or on damaged ones. */
+/* Any station; one of sixteen is not below YARD_MAX_STATIONS. */
+static uint16_t any_station(void)
+{
+    uint32_t past = below(65536 - YARD_MAX_STATIONS);
+
+    return (uint16_t)(below(16) == 0 ? YARD_MAX_STATIONS + past : below(YARD_MAX_STATIONS));
+}
+
+/*
+ * The five calls on the map in hand; the route on the predecessors that the DF search left, or on damaged ones; the
+ * panel from and to stations of its own, which the map need not have.
+ */
 static void measure_all(void)
 {
     source = (uint16_t)below(YARD_MAX_STATIONS);
@@ -174,6 +191,9 @@ static void measure_all(void)
     way_len = YARD_MAX_STATIONS;
     preds[station] = station;
     measure(&of_route);
+    source = any_station();
+    station = any_station();
+    measure(&of_panel);
 }
 
 /* Damages one byte of the map in hand at a time, takes it back, and now and then cuts the map short. */
@@ -217,5 +237,6 @@ int main(void)
     kept &= told(&of_plain);
     kept &= told(&of_df);
     kept &= told(&of_route);
+    kept &= told(&of_panel);
     return kept ? 0 : 1;
 }

@@ -25,10 +25,10 @@
  *
  * Stack: a call's stack use stays below 256 KiB. The most that was seen, in bytes, arguments included (`make stack` on
  * x86-64: full maps and damaged ones):
- *     yard_check 77,512    yard_plain 112,712    yard_df 112,712    yard_route 72
+ *     yard_check 77,512    yard_plain 112,712    yard_df 112,712    yard_route 72    yard_panel 129,064
  *
- * Each call returns 0 if accepted, else the refusal's number (1 to 18). Where answer has four entries or more, the
- * first four get
+ * Each call but yard_panel returns 0 if accepted, else the refusal's number (1 to 18); yard_panel returns a double and
+ * has no answer. Where answer has four entries or more, the first four get
  *     answer[0]  count:   entries of the page list, or stations on the route
  *     answer[1]  reached: stations that have a time, the source among them
  *     answer[2]  page of a page refusal (8 to 14 and 18); for refusal 5 the station
@@ -47,7 +47,7 @@ extern "C" {
 
 /* The version of this interface: MAJOR rises when programs have to change, MINOR when something is added. */
 #define YARD_VERSION_MAJOR 2
-#define YARD_VERSION_MINOR 0
+#define YARD_VERSION_MINOR 1
 
 /* The limits of a map. Read a file into YARD_MAX_IMAGE_BYTES + 1 bytes: one that is too long is then refused by 4. */
 #define YARD_MAX_STATIONS 2048
@@ -60,7 +60,13 @@ extern "C" {
 #define YARD_NO_PREDECESSOR UINT16_C(65535)
 #define YARD_SOURCE UINT16_C(65534)
 
-/* What a call returns: the refusals by their numbers; yard_refusal_meaning has their conditions. */
+/* What yard_panel returns for a station that was not reached. */
+#define YARD_NO_ROUTE (-1.0)
+
+/*
+ * What a call returns: the refusals by their numbers; yard_refusal_meaning has their conditions. Of what yard_panel
+ * returns, yard_panel_refusal gives the number.
+ */
 enum yard_refusal {
     YARD_ACCEPTED = 0,
     /* of the whole map: 5 gives the lowest such station in answer[2] */
@@ -69,7 +75,7 @@ enum yard_refusal {
     YARD_REFUSED_PAGE_COUNT = 3,
     YARD_REFUSED_IMAGE_LENGTH = 4,
     YARD_REFUSED_DIRECTORY = 5,
-    /* of the caller's source and tables */
+    /* of the caller's source, or the station of yard_panel, and of the tables */
     YARD_REFUSED_SOURCE = 6,
     YARD_REFUSED_TABLE_TOO_SHORT = 7,
     /* of a page: answer[2] is the page, answer[3] the offset */
@@ -98,7 +104,7 @@ static inline const char *yard_refusal_meaning(uint32_t refusal)
     case YARD_REFUSED_PAGE_COUNT: return "number of pages is 0 or over 240";
     case YARD_REFUSED_IMAGE_LENGTH: return "image is not as long as its heading says";
     case YARD_REFUSED_DIRECTORY: return "directory gives a station a page that the map does not have";
-    case YARD_REFUSED_SOURCE: return "source is not a station of the map";
+    case YARD_REFUSED_SOURCE: return "source, or the panel's station, is not a station of the map";
     case YARD_REFUSED_TABLE_TOO_SHORT: return "a table has fewer entries than the map has stations";
     case YARD_REFUSED_UNKNOWN_CODE: return "unknown command code";
     case YARD_REFUSED_PAGE_OVERRUN: return "command passes the page's end, or the page has no end command";
@@ -159,6 +165,22 @@ uint32_t yard_df(const uint8_t *image, size_t image_len, uint16_t source, uint16
  */
 uint32_t yard_route(const uint16_t *preds, size_t preds_len, uint16_t station, uint16_t *out, size_t out_len,
                     uint32_t *answer, size_t answer_len);
+
+/*
+ * The time to one station, as a panel shows it: the search of yard_df on tables of the call's own. Returns
+ *     0 to 134,150,145    the least time from the source, a whole number of tenths of a second
+ *     YARD_NO_ROUTE       there is no route to the station
+ *     -100 - n            refusal n, without its place
+ * The refusals are those of yard_df but for 7, which cannot occur. A station that is not below N is refusal 6, as such
+ * a source is: tried after 1 to 5 and before any page.
+ */
+double yard_panel(const uint8_t *image, size_t image_len, uint16_t source, uint16_t length, uint16_t station);
+
+/* The number of the refusal that yard_panel returned; 0 where it returned a time or YARD_NO_ROUTE. */
+static inline uint32_t yard_panel_refusal(double returned)
+{
+    return returned <= -101.0 ? (uint32_t)(-100.0 - returned) : 0;
+}
 
 #ifdef __cplusplus
 }

@@ -3,6 +3,7 @@
 //! and 02 come first. A difference ends it with a failing status and the words that bring the case up again.
 
 mod lent;
+mod panels;
 mod paper;
 mod routes;
 mod searches;

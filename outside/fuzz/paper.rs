@@ -1,9 +1,10 @@
 //! The examples that document 01 prints with their answers: the table of refusals, course cases C1 to C10 and the
-//! bounds named beside them; and what document 02 says of limits, on pages made for it. They are held against the
-//! reference as well as the engine, so that both hang on the paper.
+//! bounds named beside them; and what document 02 says of limits and the panel, on these maps and on pages made for it.
+//! They are held against the reference as well as the engine, so that both hang on the paper.
 
 use outside::maps::Map;
 use outside::reference::lists::one_page_reads;
+use outside::reference::panel::Panel;
 use outside::reference::route::Routes;
 use outside::reference::{image, letter, Answer, Query, Search, Tables, SOURCE};
 use outside::yard;
@@ -12,23 +13,27 @@ use outside::yard;
 type Check = fn(&[u8]) -> Answer;
 type Run = fn(Search, &[u8], Query, Tables) -> Answer;
 type Way = fn(&[u16], u16, &mut [u16]) -> Answer;
+type Show = fn(&[u8], Query, u16) -> f64;
 
 struct Calls {
     check: Check,
     search: Run,
     route: Way,
+    panel: Show,
 }
 
 const REFERENCE: Calls = Calls {
     check: image::check,
     search: letter::search,
     route: |preds, station, out| Routes::new(preds).call(station, out),
+    panel: |image, query, station| Panel::new(image, query).outside(station),
 };
 
 const ENGINE: Calls = Calls {
     check: |image| answered(|answer| yard::check(image, answer)),
     search: |kind, image, query, tables| answered(|answer| yard::search(kind, image, query, tables, answer)),
     route: |preds, station, out| answered(|answer| yard::route(preds, station, out, answer)),
+    panel: yard::panel,
 };
 
 fn answered(call: impl FnOnce(&mut [u32]) -> u32) -> Answer {
@@ -43,7 +48,8 @@ pub fn compare() -> Result<usize, String> {
     let mut tried = 0;
     for (name, calls) in [("reference", REFERENCE), ("engine", ENGINE)] {
         let document_01 = [headings(&calls), pages(&calls), course(&calls), routes(&calls), bounds(&calls)];
-        let examples: Vec<_> = document_01.into_iter().flatten().chain(limits(&calls)).collect();
+        let document_02 = [limits(&calls), panel(&calls)];
+        let examples: Vec<_> = document_01.into_iter().chain(document_02).flatten().collect();
         if let Some((example, _)) = examples.iter().find(|(_, holds)| !holds) {
             return Err(format!("{name}: {example}"));
         }
@@ -139,6 +145,13 @@ fn m7() -> Vec<u8> {
     drawn(2, vec![0, 0, 0, 0, 1, 1, 1], &moves)
 }
 
+/// M7, page 1 begins `07`.
+fn spoiled_m7() -> Vec<u8> {
+    let mut image = m7();
+    image[4 + 7 + 256] = 7;
+    image
+}
+
 fn drawn(pages: usize, directory: Vec<u8>, moves: &[(usize, usize, u16)]) -> Vec<u8> {
     let mut map = Map::new(pages, directory);
     for &(from, target, time) in moves {
@@ -153,9 +166,7 @@ fn course(calls: &Calls) -> Examples {
     let alone = run(Search::Df, &m7(), 6);
     let single = run(Search::Df, &s(), 0);
     let tied = run(Search::Df, &drawn(1, vec![0; 4], &[(0, 1, 6), (0, 2, 5), (1, 3, 4), (2, 3, 5)]), 0);
-    let mut spoiled = m7();
-    spoiled[4 + 7 + 256] = 7;
-    let spoiled = run(Search::Df, &spoiled, 0);
+    let spoiled = run(Search::Df, &spoiled_m7(), 0);
     let apart = map(2, &[0, 1], &[&[1, 0, 0, 0], &[7]]);
     let (far, near) = (run(Search::Df, &apart, 0), run(Search::Df, &apart, 1));
     let accepted = |count, reached| Answer { count, reached, ..Answer::default() };
@@ -188,11 +199,15 @@ fn routes(calls: &Calls) -> Examples {
     ]
 }
 
+/// A map of 2,048 stations on 240 pages.
+fn full(moves: &[(usize, usize, u16)]) -> Vec<u8> {
+    drawn(240, (0..2048).map(|station| (station % 240) as u8).collect(), moves)
+}
+
 /// N 2,048 and 2,049; P 240 and 241; times 65,535 (and 0, which is the example of 13).
 fn bounds(calls: &Calls) -> Examples {
     let check = |image: &[u8], wanted| (calls.check)(image) == wanted;
-    let spread = |stations: usize, pages: usize| (0..stations).map(|at| (at % pages) as u8).collect::<Vec<u8>>();
-    let full = drawn(240, spread(2048, 240), &[(0, 1, 65535), (1, 2047, 65535)]);
+    let full = full(&[(0, 1, 65535), (1, 2047, 65535)]);
     let too_many = [2049u16.to_le_bytes().to_vec(), vec![240, 0], vec![0; 2049 + 256 * 240]].concat();
     let too_long = [vec![1, 0, 241, 0, 0], vec![0; 256 * 241]].concat();
     let long = search(calls, Search::Df, &full, from(0), 2048);
@@ -204,13 +219,17 @@ fn bounds(calls: &Calls) -> Examples {
     ]
 }
 
-/// "It refuses a limit of 0 with 18, tried after 13"; "use a move only if its limit isn't below it". In the last map
-/// the way 0-1-2 takes 7 and its second move strips of up to 8,120 decimetres; 0-2 takes 9.
+/// 0-1/4, 0-2/9, and 1-2/3 for strips of up to 8,120 decimetres: the way 0-1-2 takes 7.
+fn two_ways() -> Vec<u8> {
+    let page = [1, 0, 0, 2, 1, 0, 4, 0, 2, 2, 0, 9, 0, 1, 1, 0, 3, 2, 0, 3, 0, 0xB8, 0x1F, 1, 2, 0];
+    map(3, &[0; 3], &[&page])
+}
+
+/// "It refuses a limit of 0 with 18, tried after 13"; "use a move only if its limit isn't below it".
 fn limits(calls: &Calls) -> Examples {
     let check = |page: &[u8], wanted| (calls.check)(&map(2, &[0, 0], &[page])) == wanted;
-    let page = [1, 0, 0, 2, 1, 0, 4, 0, 2, 2, 0, 9, 0, 1, 1, 0, 3, 2, 0, 3, 0, 0xB8, 0x1F, 1, 2, 0];
     let open = |strip, times: [u32; 3]| {
-        let run = |kind| search(calls, kind, &map(3, &[0; 3], &[&page]), Query { source: 0, strip }, 3);
+        let run = |kind| search(calls, kind, &two_ways(), Query { source: 0, strip }, 3);
         run(Search::Plain).times == times && run(Search::Df).times == times
     };
     vec![
@@ -221,5 +240,34 @@ fn limits(calls: &Calls) -> Examples {
         ("limit 8,120, strip 8,120", open(8_120, [0, 4, 7])),
         ("limit 8,120, strip 8,121", open(8_121, [0, 4, 9])),
         ("limit 8,120, strip 65,535", open(65_535, [0, 4, 9])),
+    ]
+}
+
+/// "No route is -1 and refusal n is -100 - n, its place left out. Station numbers not below N count as refusal 6."
+/// Compared bit for bit: the source's time is 0 and not minus zero.
+fn panel(calls: &Calls) -> Examples {
+    let shows = |image: &[u8], query, station, wanted: f64| {
+        (calls.panel)(image, query, station).to_bits() == wanted.to_bits()
+    };
+    let (m7, spoiled, s) = (m7(), spoiled_m7(), s());
+    let times = [0.0, 4.0, 3.0, 6.0, 2.0, 8.0, 9.0];
+    let no_map = |number| shows(&[1, 0, 1], Query { source: number, strip: number }, number, -101.0);
+    let limited = |strip, from_0, from_1| {
+        let to_2 = |source, wanted| shows(&two_ways(), Query { source, strip }, 2, wanted);
+        to_2(0, from_0) && to_2(1, from_1)
+    };
+    let chain: Vec<_> = (0..2047).map(|station| (station, station + 1, 65_535)).collect();
+    vec![
+        ("panel: C1", (0..7).zip(times).all(|(station, time)| shows(&m7, from(0), station, time))),
+        ("panel: no route", shows(&m7, from(6), 0, -1.0) && shows(&m7, from(6), 6, 0.0)),
+        ("panel: 1", [0, 1, 2, 65_535].into_iter().all(no_map)),
+        ("panel: 5 before 6", shows(&map(1, &[1], &[&[1, 0, 0, 0]]), from(1), 1, -105.0)),
+        ("panel: 6, station", shows(&s, from(0), 1, -106.0)),
+        ("panel: 6, source", shows(&s, from(1), 0, -106.0)),
+        ("panel: C7", (0..7).all(|station| shows(&spoiled, from(0), station, -108.0))),
+        ("panel: 6 before C7's page", shows(&spoiled, from(0), 7, -106.0)),
+        ("panel: limit 8,120, strip 8,120", limited(8_120, 7.0, 3.0)),
+        ("panel: limit 8,120, strip 8,121", limited(8_121, 9.0, -1.0)),
+        ("panel: greatest time", shows(&full(&chain), from(0), 2_047, 134_150_145.0)),
     ]
 }

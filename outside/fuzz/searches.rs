@@ -1,7 +1,8 @@
-//! One image, source and set of tables: whole check; for each of two strips both searches, demand 3 and the routes by
-//! the predecessors left; and the times for the one strip against those for the other.
+//! One image, source and set of tables: whole check; for each of two strips both searches, the panel, demand 3 and the
+//! routes by the predecessors left; and the times for the one strip against those for the other.
 
 use crate::lent::{self, Lent, LentTables, Outcome};
+use crate::panels;
 use crate::routes;
 use crate::tally::{Call, Tally};
 use outside::maps::cases::Case;
@@ -10,6 +11,7 @@ use outside::maps::{page_bytes, Command};
 use outside::random::Random;
 use outside::reference::image::{self, Image};
 use outside::reference::lists::{entry_stations, is_left_of, listed, listed_too_often, one_page_reads};
+use outside::reference::panel::Panel;
 use outside::reference::walks::{self, Leg, Pages, RefusedPage, Truth};
 use outside::reference::{letter, Answer, Query, Search};
 use outside::yard;
@@ -36,11 +38,12 @@ impl Agreed {
     }
 }
 
-/// Both searches for one strip.
+/// Both searches for one strip, and the reference's panel.
 struct Both {
     query: Query,
     plain: Agreed,
     df: Agreed,
+    panel: Panel,
 }
 
 pub fn compare(case: &Case, random: &mut Random, tally: &mut Tally) -> Result<(), String> {
@@ -86,7 +89,11 @@ fn compare_both(
         let call = Called { kind, image: &case.image, query, answer: lent::answer(random), tables: tables.clone() };
         call.compare(random, tally).map_err(|difference| format!("{kind:?}, strip {strip}: {difference}"))
     };
-    Ok(Both { query, plain: compare(Search::Plain)?, df: compare(Search::Df)? })
+    let (plain, df) = (compare(Search::Plain)?, compare(Search::Df)?);
+    let panel = panels::compare(&case.image, query, random, tally)
+        .map_err(|difference| format!("panel, strip {strip}: {difference}"))?;
+    tally.note("panel: no refusal 7 where a lent table is too short", df.answer.refusal == 7);
+    Ok(Both { query, plain, df, panel })
 }
 
 impl Called<'_> {
@@ -153,10 +160,11 @@ fn compare_demands(
     random: &mut Random,
     tally: &mut Tally,
 ) -> Result<(), String> {
-    let Both { query, plain, df } = both;
+    let Both { query, plain, df, panel } = both;
     let legs = walks::legs(pages, query.strip);
     let truth = walks::truth(image, pages, *query);
     compare_truth(image, &truth, plain, df)?;
+    panels::compare_truth(panel, &truth)?;
     let accepted = df.answer.refusal == 0;
     if accepted {
         compare_lists(image, &legs, query.source, plain, df)?;

@@ -1,8 +1,9 @@
 //! What came up in a run: how often each call gave each refusal, of which kinds the cases were, and how often the
-//! searches did what is easily got wrong or had moves closed.
+//! searches and the panel did what is easily got wrong or had moves closed.
 
 use outside::reference::image::Image;
 use outside::reference::lists::one_page_reads;
+use outside::reference::panel::{Inside, Panel};
 use outside::reference::walks::{Pages, Truth};
 use outside::reference::{Answer, Search};
 use std::collections::BTreeMap;
@@ -14,6 +15,7 @@ pub enum Call {
     Plain,
     Df,
     Route,
+    Panel,
 }
 
 impl Call {
@@ -31,7 +33,7 @@ const NO_ROUTE: usize = 19;
 
 #[derive(Default)]
 pub struct Tally {
-    calls: [[u64; OUTCOMES]; 4],
+    calls: [[u64; OUTCOMES]; 5],
     kinds: BTreeMap<&'static str, u64>,
     notes: BTreeMap<&'static str, u64>,
 }
@@ -68,6 +70,14 @@ impl Tally {
         self.note("accepted, refused if every move were open", truth.refused.is_none() && all_open.refused.is_some());
     }
 
+    /// What the panel showed for a station.
+    pub fn panel(&mut self, panel: &Panel, station: u16) {
+        let inside = panel.inside(station);
+        let bad_page = matches!(panel.times, Err(8..));
+        self.call(Call::Panel, Answer::refused(inside.err().unwrap_or(0)), inside == Ok(Inside::NoRoute));
+        self.note("panel: station not below N refused before a bad page", inside == Err(6) && bad_page);
+    }
+
     /// Counts something that is easily got wrong, or tried without effect.
     pub fn note(&mut self, note: &'static str, came_up: bool) {
         *self.notes.entry(note).or_default() += u64::from(came_up);
@@ -91,7 +101,7 @@ fn name(outcome: usize) -> String {
 
 impl fmt::Display for Tally {
     fn fmt(&self, out: &mut fmt::Formatter) -> fmt::Result {
-        writeln!(out, "{:<12}{:>12}{:>12}{:>12}{:>12}", "calls", "check", "plain", "df", "route")?;
+        writeln!(out, "{:<12}{:>12}{:>12}{:>12}{:>12}{:>12}", "calls", "check", "plain", "df", "route", "panel")?;
         for outcome in 0..OUTCOMES {
             write!(out, "{:<12}", name(outcome))?;
             for call in &self.calls {
@@ -99,7 +109,7 @@ impl fmt::Display for Tally {
             }
             writeln!(out)?;
         }
-        for (title, counts) in [("kinds of cases", &self.kinds), ("searches", &self.notes)] {
+        for (title, counts) in [("kinds of cases", &self.kinds), ("searches and the panel", &self.notes)] {
             writeln!(out, "{title}")?;
             for (name, count) in counts {
                 writeln!(out, "{count:>12}  {name}")?;

@@ -1,11 +1,12 @@
 //! Document 01 once more, with the limits of document 02, in Rust and from their words alone: the whole check and page
 //! reader (`image`), both searches step by step (`letter`), what a search has to give by an altogether different
-//! method (`walks`), the words of demand 3 (`lists`) and the route (`route`). Slow and plain on purpose: it is there to
-//! be read and believed.
+//! method (`walks`), the words of demand 3 (`lists`), the route (`route`) and document 02's panel (`panel`). Slow and
+//! plain on purpose: it is there to be read and believed.
 
 pub mod image;
 pub mod letter;
 pub mod lists;
+pub mod panel;
 pub mod route;
 pub mod walks;
 

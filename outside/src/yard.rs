@@ -1,5 +1,7 @@
 //! The engine's C interface (`include/yard.h`), and wrappers of it on slices. The only unsafe code of this folder.
 
+use crate::reference::Query;
+
 /// The whole check and both searches of a build of the engine, by the names that its functions have.
 #[macro_export]
 macro_rules! calls_of_a_build {
@@ -10,7 +12,7 @@ macro_rules! calls_of_a_build {
         $crate::declare_search!($plain);
         $crate::declare_search!($df);
 
-        /// The whole check. Returns 0 or the refusal's number, as all four calls do.
+        /// The whole check. Returns 0 or the refusal's number, as all calls but the panel's do.
         pub fn check(image: &[u8], answer: &mut [u32]) -> u32 {
             // SAFETY: each pointer goes with the length of its own slice, and the answer is lent alone.
             unsafe { $check(image.as_ptr(), image.len(), answer.as_mut_ptr(), answer.len()) }
@@ -88,6 +90,8 @@ extern "C" {
         answer: *mut u32,
         answer_len: usize,
     ) -> u32;
+
+    fn yard_panel(image: *const u8, image_len: usize, source: u16, length: u16, station: u16) -> f64;
 }
 
 /// The route to a station by the predecessors that a search left.
@@ -104,4 +108,10 @@ pub fn route(preds: &[u16], station: u16, out: &mut [u16], answer: &mut [u32]) -
             answer.len(),
         )
     }
+}
+
+/// What the panel shows for a station: a time, no route or a refusal, as one float.
+pub fn panel(image: &[u8], query: Query, station: u16) -> f64 {
+    // SAFETY: the pointer goes with the length of its slice.
+    unsafe { yard_panel(image.as_ptr(), image.len(), query.source, query.strip, station) }
 }

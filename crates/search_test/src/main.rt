@@ -2,9 +2,9 @@
 // and every entry of the four lent tables. tests/make_search_cases.py writes the cases and, by searches of its own,
 // the text that this program must print.
 //
-// The input is a row of maps, as the crate cases_io reads them. A call is the source, the strip's length and the lengths
-// of times, predecessors, marks and page list (six u16), the number of changes (u8), and the changes. It runs the plain
-// search and then the DF search.
+// The input is a row of maps, as the crate cases_io reads them. A call is the source, the strip's length and the
+// lengths of times, predecessors, marks and page list (six u16), the number of changes (u8), and the changes. It runs
+// the plain search and then the DF search.
 
 mod answers;
 mod tables;

@@ -1,7 +1,8 @@
 // The C interface (include/yard.h): each call of the engine as a C function. A slice passes as a pointer and a length
 // in entries. What a call answers becomes its status and the four numbers of `answer` (specs/Numbers.antt); what it
 // does to the lent tables is what the engine's call does. A search promises a C caller what it promises every caller
-// (specs/Searches.antt), of the reply that the numbers tell and of the tables as they are left.
+// (specs/Searches.antt), of the reply that the numbers tell and of the tables as they are left. The panel's call alone
+// has no numbers: its answer is one float (panel/specs/Panel.antt, `outside`).
 
 ghost use mathlib.Core.Path.{_≡_};
 ghost use Rattle.net.specs.Search.{plainSearch, dfSearch};
@@ -9,10 +10,12 @@ ghost use Rattle.page.specs.Check.{wholeCheck};
 ghost use Rattle.route.specs.Route.{routeCall};
 ghost use Rattle.search.specs.Reply.{asked, lent};
 ghost use Rattle.search.specs.Promises.{Promised, DfPromised};
+ghost use Rattle.panel.specs.Promises.{OutsidePromised};
 ghost use Rattle.yard.specs.Numbers.{told, toldBy, ofCheck, ofRoute};
 ghost use Rattle.yard.specs.Searches.{SearchTold};
 use answers::of_check;
 use answers::of_route;
+use answers::one_float;
 use answers::tell;
 use answers::tell_search;
 
@@ -95,4 +98,12 @@ pub extern "C" fn yard_route(
         now (out .exit) ≡ (routeCall (now (preds .entry)) station (now (out .entry))) .output ⌝ }
 {
     tell(of_route(route::route(preds, station, out)), answer)
+}
+
+// The time to one station for the panel of the crane cabin, as one float.
+#[no_mangle]
+pub extern "C" fn yard_panel(image: &[u8], source: u16, strip: u16, station: u16) -> f64
+    ensures promised { λ r. ⌜ OutsidePromised (asked (now (image .entry)) source strip) station r ⌝ }
+{
+    one_float(panel::time_to(image, source, strip, station))
 }
