@@ -23,7 +23,7 @@ cases: layers
 
 # What would look at page bytes, by the names that the sources use: a slice under another name escapes this.
 LOOKS := \b(page|image)\[|(byte_at|word_at|part_of|command_at)\((page|image)\b
-ABOVE_COMMANDS := layout queue relax page engine tables search panel coil yard
+ABOVE_COMMANDS := layout queue relax page work reference engine tables search panel coil yard
 
 # Looks in the sources of the crates above commands for an index of, or a byte read from, a slice called page or image.
 layers:

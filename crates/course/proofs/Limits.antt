@@ -15,7 +15,7 @@ use Rattle.commands.specs.Rules.{judge, judgedAt}
 use Rattle.page.specs.Reading.{readFrom, readPage, movesIn}
 use Rattle.page.specs.Check.{readingOf}
 use Rattle.page.specs.Open.{openTo}
-use Rattle.engine.specs.Map.{mapFrame, mapPage}
+use Rattle.map.specs.Map.{mapFrame, mapPage}
 use Rattle.search.specs.Reply.{callCheck, onMap, searched}
 use Rattle.course.specs.Limits.{m7Limited, found, bothOpen, firstClosed, bothClosed}
 

@@ -12,7 +12,7 @@ use Rattle.commands.specs.Rules.{judge, judgedAt}
 use Rattle.page.specs.Reading.{readFrom, readPage, movesIn}
 use Rattle.page.specs.Check.{readingOf}
 use Rattle.page.specs.Open.{openTo}
-use Rattle.engine.specs.Map.{mapPage}
+use Rattle.map.specs.Map.{mapPage}
 use Rattle.search.specs.Reply.{callCheck, onMap, searched}
 use Rattle.text.specs.Text.{ascii, digits}
 use Rattle.coil.specs.Line.{sourceWords, acceptedLine, refusalLine, recordLine}

@@ -14,7 +14,7 @@ use Rattle.commands.specs.Rules.{judge, judgedAt}
 use Rattle.page.specs.Reading.{readFrom, readPage, movesIn}
 use Rattle.page.specs.Check.{readingOf}
 use Rattle.page.specs.Open.{openTo}
-use Rattle.engine.specs.Map.{mapPage}
+use Rattle.map.specs.Map.{mapPage}
 use Rattle.search.specs.Reply.{asked, callCheck, onMap, searched}
 use Rattle.panel.specs.Panel.{time, unreached, turnedDown, answerTo, inside, outside}
 use Rattle.course.specs.Cases.{m7, m7Bad, courseStrip}

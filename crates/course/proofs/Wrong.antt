@@ -17,7 +17,7 @@ use Rattle.commands.specs.Rules.{judge, judgedAt}
 use Rattle.page.specs.Reading.{readFrom, readPage, movesIn}
 use Rattle.page.specs.Check.{readingOf}
 use Rattle.page.specs.Open.{openTo}
-use Rattle.engine.specs.Map.{mapFrame, mapPage}
+use Rattle.map.specs.Map.{mapFrame, mapPage}
 use Rattle.search.specs.Reply.{asked, Handed, callCheck, onMap, searched, listOf}
 use Rattle.search.specs.Promises.{SameLengths}
 use Rattle.course.specs.Cases.{m7, m7Bad, lentFor, courseStrip, ours, dijkstras}

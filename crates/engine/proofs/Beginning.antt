@@ -15,12 +15,12 @@ use Rattle.image.proofs.Parts.{bytes-directory}
 use Rattle.queue.proofs.Groups.{least-empty, empty-groups}
 use Rattle.relax.specs.Cells.{Memory, memory, Room, Relaxed, noCost, PlacedAt}
 use Rattle.relax.proofs.Rows.{relaxed-room, relaxed-cell, relaxed-other, relaxed-waits, relaxed-waits-other}
-use Rattle.engine.specs.declared.Query.{Query}
-use Rattle.engine.specs.Board.{Serving, frameOf, Placing, StationIs}
-use Rattle.engine.specs.Hand.{Stands}
-use Rattle.engine.specs.Standing.{serving, Underway}
-use Rattle.engine.proofs.Board.{placed-at, other-slot, relaxed-leaves}
-use Rattle.engine.proofs.Soundness.{image-sound}
+use Rattle.reference.specs.declared.Query.{Query}
+use Rattle.work.specs.Board.{Serving, frameOf, Placing, StationIs}
+use Rattle.work.specs.Hand.{Stands}
+use Rattle.reference.specs.Standing.{serving, Underway}
+use Rattle.work.proofs.Board.{placed-at, other-slot, relaxed-leaves}
+use Rattle.map.proofs.Soundness.{image-sound}
 
 -- Tables of nobody's cells, keys and leaves.
 abbrev pub empty : Memory

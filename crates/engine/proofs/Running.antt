@@ -10,13 +10,13 @@ use Rattle.net.specs.Run.{searchOf, unmarked, firstWaiting}
 use Rattle.net.proofs.Steps.Waiting.{nobody-refused}
 use Rattle.net.proofs.Runs.{run-is-search, run-stops}
 use Rattle.relax.specs.Cells.{Memory}
-use Rattle.engine.specs.declared.Query.{Query}
-use Rattle.engine.specs.declared.Reference.the-variants.{NobodyWaits, Made, Bad}
+use Rattle.reference.specs.declared.Query.{Query}
+use Rattle.reference.specs.declared.Reference.the-variants.{NobodyWaits, Made, Bad}
 use Rattle.engine.specs.declared.Ended.the-variants.{Over, BadPage}
-use Rattle.engine.specs.Map.{mapFrame}
-use Rattle.engine.specs.Board.{Serving}
-use Rattle.engine.specs.Hand.{stateAfter}
-use Rattle.engine.specs.Standing.{serving, Underway, Lists, Referred}
+use Rattle.map.specs.Map.{mapFrame}
+use Rattle.work.specs.Board.{Serving}
+use Rattle.work.specs.Hand.{stateAfter}
+use Rattle.reference.specs.Standing.{serving, Underway, Lists, Referred}
 use Rattle.engine.specs.Ending.{Listed, EndedAs, EndedOn}
 
 -- After k references, with the list as it was before the first of them.

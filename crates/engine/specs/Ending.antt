@@ -7,11 +7,11 @@ use lib.ListN.{length, getD, drop}
 use Rattle.net.specs.Net.{Frame}
 use Rattle.net.specs.Search.{State, going, refused, timeOf, predOf}
 use Rattle.net.specs.Run.{searchOf}
-use Rattle.engine.specs.declared.Query.{Query}
+use Rattle.reference.specs.declared.Query.{Query}
 use Rattle.engine.specs.declared.Ended.{Ended}
 use Rattle.engine.specs.declared.Ended.the-variants.{Over, BadPage}
-use Rattle.engine.specs.Map.{mapFrame, mapPage}
-use Rattle.engine.specs.Board.{CellIs}
+use Rattle.map.specs.Map.{mapFrame, mapPage}
+use Rattle.work.specs.Board.{CellIs}
 
 -- Each station's cell holds its time and predecessor in state s.
 abbrev pub CellsHold : Frame → ℕ → State → List ℕ → Type 0

@@ -1,5 +1,1 @@
-pub mod Map
-pub mod Board
-pub mod Hand
-pub mod Standing
 pub mod Ending

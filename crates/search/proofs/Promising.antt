@@ -17,8 +17,8 @@ use Rattle.image.specs.Image.{Outcome, accepted, refused, on-page, stationCount
 use Rattle.image.specs.Image.{AgreeOnHeading, AgreeOnDirectory, AgreeOnPage}
 use Rattle.image.proofs.Agree.{stations-agree, heading-agrees}
 use Rattle.page.proofs.Agree.{reading-agrees}
-use Rattle.engine.specs.Map.{frame, offered, mapPage}
-use Rattle.engine.proofs.Offered.{goes-shorter}
+use Rattle.map.specs.Map.{frame, offered, mapPage}
+use Rattle.map.proofs.Offered.{goes-shorter}
 use Rattle.search.specs.Reply.{Query, withImage, withStrip, frameOf, pagesOf, Lent, Handed, reply, ended}
 use Rattle.search.specs.Reply.{tooShort, callCheck, onMap, afterCheck, searched, listOf}
 use Rattle.search.specs.Promises.{SameLengths, firsts, TimesAreLeast, PageIsFirstBad}

@@ -9,7 +9,7 @@ use Rattle.image.specs.Bytes.{Bytes}
 use Rattle.image.specs.Image.{Outcome, accepted, refused, stationCount, headingCheck}
 use Rattle.image.proofs.Heading.{heading-says}
 use Rattle.page.specs.Check.{afterHeading}
-use Rattle.engine.proofs.Offered.{bad-page}
+use Rattle.map.proofs.Offered.{bad-page}
 use Rattle.search.specs.Reply.{Query, frameOf, pagesOf, Lent, ended, tooShort, sixOrSeven, callCheck, onMap}
 use Rattle.search.specs.Reply.{afterCheck, searched}
 use Rattle.search.proofs.Checking.{Admitted, Decided, turned-down, passed, decided}

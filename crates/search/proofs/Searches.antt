@@ -10,7 +10,7 @@ use Rattle.net.proofs.Laws.{plain-local, df-local}
 use Rattle.image.specs.Bytes.{Bytes}
 use Rattle.image.specs.Image.{stationCount}
 use Rattle.image.proofs.Heading.{formed}
-use Rattle.engine.proofs.Soundness.{image-sound}
+use Rattle.map.proofs.Soundness.{image-sound}
 use Rattle.search.specs.Reply.{Query, frameOf, pagesOf, Lent}
 use Rattle.search.proofs.Checking.{Admitted}
 

@@ -8,7 +8,7 @@ use Rattle.net.specs.Net.{Frame, Page, count}
 use Rattle.net.specs.Search.{State, timeOf, predOf, hasTime, reached}
 use Rattle.net.specs.Demands.{Spells, at-source, step, LeastTimes}
 use Rattle.net.proofs.Sound.{Sound}
-use Rattle.engine.specs.Board.{CellIs}
+use Rattle.work.specs.Board.{CellIs}
 use Rattle.engine.specs.Ending.{CellsHold}
 use Rattle.tables.specs.Finishing.{timeIn, predIn, Finished}
 use Rattle.tables.proofs.Finishing.{shows-all}

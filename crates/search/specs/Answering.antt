@@ -3,13 +3,13 @@ use mathlib.Core.Bool.{Bool, true, false}
 use mathlib.Core.List.{List}
 use Prim.Native.Nat.{ℕ}
 use Rattle.image.specs.Image.{accepted, refused, on-page}
-use Rattle.engine.specs.declared.Query as engine
+use Rattle.reference.specs.declared.Query as reference
 use Rattle.engine.specs.declared.Ended.{Ended}
 use Rattle.engine.specs.declared.Ended.the-variants.{Over, BadPage}
 use Rattle.search.specs.Reply.{Query, asked, Reply, reply}
 
 -- What the code's query asks of an image; the flag, which search it is, is not part of it.
-abbrev pub askedBy : engine.Query → List ℕ → Query
+abbrev pub askedBy : reference.Query → List ℕ → Query
 askedBy query image = asked image (query .source) (query .strip)
 
 abbrev pub isOver : Ended → Bool

@@ -16,12 +16,12 @@ use super::Answer;
 use super::answers::answer_of;
 use super::answers::is_over;
 use common::NOBODY;
-use engine::Query;
 use image::Checked;
 use image::Place;
 use image::check_heading;
 use image::refuse;
 use image::station_count;
+use reference::Query;
 use tables::finish;
 
 // Whether a table has no entry for some of n stations: 7.
@@ -106,7 +106,7 @@ fn on_map(
         (lent (now (times .entry)) (now (preds .entry)) (now (marks .entry)) (now (list .entry))) ⌝ }
 {
     let mut cells = [NOBODY; 2048];
-    let ended = engine::run::search(query, image, &mut cells, list);
+    let ended = engine::search(query, image, &mut cells, list);
     let n = station_count(image);
     let over = is_over(ended);
     let reached = finish(

@@ -1,5 +1,5 @@
 -- For the code: what the cells of a search that has ended show. A cell holds a station's time and predecessor
--- (engine/specs/Board.antt, `CellIs`); where a bad page ended the search, each shows nothing.
+-- (work/specs/Board.antt, `CellIs`); where a bad page ended the search, each shows nothing.
 use mathlib.Core.Path.{_≡_}
 use mathlib.Core.Bool.{Bool}
 use mathlib.Core.List.{List}

@@ -16,7 +16,7 @@ use Rattle.page.proofs.Offsets.{PlaceBy256, whole-by-256}
 use Rattle.route.specs.Route as route
 use Rattle.route.specs.Route.{Chain, whole, broken, lengthened, chain, predecessorAt}
 use Rattle.route.specs.Route.{found, noRoute, fitted, outcome, handedBack, routeCall}
-use Rattle.engine.proofs.Offered.{bad-page}
+use Rattle.map.proofs.Offered.{bad-page}
 use Rattle.search.specs.Reply.{Query, frameOf, pagesOf, Lent, ended, callCheck, onMap, afterCheck, searched}
 use Rattle.search.proofs.Checking.{NamesNoPage, Admitted, Decided, turned-down, passed, decided}
 use Rattle.search.proofs.Searches.{few-stations, refused-of, short-of}

@@ -1,0 +1,2 @@
+pub mod Fetching
+pub mod Referring
