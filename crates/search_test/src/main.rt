@@ -20,103 +20,74 @@ use image::bytes::word_at;
 use libc::STDIN_FILENO;
 use libc::STDOUT_FILENO;
 use search::Answer;
-use tables::fill;
-use tables::print_tables;
-ghost use Prim.Native.Nat.{_≤_};
+use tables::ENTRIES;
+use tables::print_bytes;
+use tables::print_table;
+use tables::print_words;
+use tables::within;
 
-// The longest table of a case.
-const ENTRIES: usize = 2100;
+// What stands in the tables before a call. No search writes these, but for page 187 on a map of so many pages.
+const TIME_BEFORE: u32 = 2863311530;
+
+const PRED_BEFORE: u16 = 43690;
+
+const MARK_BEFORE: u8 = 170;
+
+const PAGE_BEFORE: u8 = 187;
 
 // Either search.
 fn searched(
     df: bool,
     image: &[u8],
-    source: u16,
-    strip: u16,
+    call: &[u8],
     times: &mut [u32],
     preds: &mut [u16],
     marks: &mut [u8],
     list: &mut [u8],
 ) -> Answer {
+    let source = word_at(call, 0);
+    let strip = word_at(call, 2);
     if df {
         return search::calls::df(image, source, strip, times, preds, marks, list);
     }
     search::calls::plain(image, source, strip, times, preds, marks, list)
 }
 
-fn print_search(df: bool) {
-    if df {
-        io::write_all(STDOUT_FILENO, b"  df: ");
-        return;
-    }
-    io::write_all(STDOUT_FILENO, b"  plain: ");
+fn print_tables(times: &[u32], preds: &[u16], marks: &[u8], list: &[u8]) {
+    print_table(b"   times", times);
+    print_words(b"   predecessors", preds);
+    print_bytes(b"   marks", marks);
+    print_bytes(b"   list", list);
 }
 
-// One search on tables filled anew, and all that it handed back.
-fn run_search(
+// One search on the parts of the tables that the call lends, and all that it handed back.
+fn run_lent(
     df: bool,
     image: &[u8],
-    source: u16,
-    strip: u16,
+    call: &[u8],
     times: &mut [u32],
     preds: &mut [u16],
     marks: &mut [u8],
     list: &mut [u8],
 ) {
-    fill(times, preds, marks, list);
-    print_search(df);
-    print_answer(searched(df, image, source, strip, times, preds, marks, list));
+    print_answer(searched(df, image, call, times, preds, marks, list));
     print_tables(times, preds, marks, list);
 }
 
-fn print_call(call: &[u8]) {
-    print_number(b" from ", word_at(call, 0) as u64);
-    print_number(b", strip ", word_at(call, 2) as u64);
-    print_number(b", tables ", word_at(call, 4) as u64);
-    print_number(b" ", word_at(call, 6) as u64);
-    print_number(b" ", word_at(call, 8) as u64);
-    print_number(b" ", word_at(call, 10) as u64);
-    io::write_all(STDOUT_FILENO, b"\n");
-}
-
-// Both searches on the parts of the tables that the call lends.
-fn run_lent(
-    image: &[u8],
-    source: u16,
-    strip: u16,
-    times: &mut [u32],
-    preds: &mut [u16],
-    marks: &mut [u8],
-    list: &mut [u8],
-) {
-    run_search(false, image, source, strip, times, preds, marks, list);
-    run_search(true, image, source, strip, times, preds, marks, list);
-}
-
-// A length that a call asks for, as far as there is room.
-fn within(asked: u16) -> usize
-    ensures fits { λ r. ⌜ r ≤ 2100 ⌝ }
-{
-    if (asked as usize) < ENTRIES {
-        return asked as usize;
-    }
-    ENTRIES
-}
-
-// Both searches on tables of the lengths that the call asks for.
-fn run_tables(image: &[u8], call: &[u8]) {
-    let mut times = [0u32; ENTRIES];
-    let mut preds = [0u16; ENTRIES];
-    let mut marks = [0u8; ENTRIES];
-    let mut list = [0u8; ENTRIES];
-    let t = within(word_at(call, 4));
-    let p = within(word_at(call, 6));
-    let m = within(word_at(call, 8));
-    let l = within(word_at(call, 10));
+// One search, on new tables of the lengths that the call asks for.
+fn run_search(df: bool, image: &[u8], call: &[u8]) {
+    let mut times = [TIME_BEFORE; ENTRIES];
+    let mut preds = [PRED_BEFORE; ENTRIES];
+    let mut marks = [MARK_BEFORE; ENTRIES];
+    let mut list = [PAGE_BEFORE; ENTRIES];
+    let t = within(word_at(call, 4) as usize);
+    let p = within(word_at(call, 6) as usize);
+    let m = within(word_at(call, 8) as usize);
+    let l = within(word_at(call, 10) as usize);
     run_lent(
+        df,
         image,
-        word_at(call, 0),
-        word_at(call, 2),
+        call,
         &mut times[..t],
         &mut preds[..p],
         &mut marks[..m],
@@ -124,11 +95,28 @@ fn run_tables(image: &[u8], call: &[u8]) {
     );
 }
 
+fn print_lengths(call: &[u8]) {
+    print_number(b", tables ", word_at(call, 4) as u64);
+    print_number(b" ", word_at(call, 6) as u64);
+    print_number(b" ", word_at(call, 8) as u64);
+    print_number(b" ", word_at(call, 10) as u64);
+    io::write_all(STDOUT_FILENO, b"\n");
+}
+
+fn print_call(call: &[u8]) {
+    print_number(b" from ", word_at(call, 0) as u64);
+    print_number(b", strip ", word_at(call, 2) as u64);
+    print_lengths(call);
+}
+
 // Prints a call, makes its changes and runs both searches.
 fn answer_call(image: &mut [u8], call: &[u8; 13]) {
     print_call(call);
     change_bytes(image, call[12]);
-    run_tables(image, call);
+    io::write_all(STDOUT_FILENO, b"  plain: ");
+    run_search(false, image, call);
+    io::write_all(STDOUT_FILENO, b"  df: ");
+    run_search(true, image, call);
 }
 
 // Reads a call of the map at hand and answers it, and says what is at hand then.

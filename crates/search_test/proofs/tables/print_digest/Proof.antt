@@ -1,14 +1,15 @@
 -- `search_test::tables::print_digest` is safe and ends. The measure is the number of entries that are left.
 use borrow.Author.Needs.{needs}
 use Prim.Native.Nat.{_-_}
+use lib.ListN.{length}
 use Rattle.search_test.proofs.tables.print_digest.Statement.{statement}
 use Rattle.search_test.proofs.tables.print_digest.Tie as tie
 
 abbrev Inv-loop : tie.InvT-loop
-Inv-loop table times preds marks list n digest₀ i₀ t9 t10 digest i = Unit {0}
+Inv-loop table digest₀ i₀ t4 t5 digest i = Unit {0}
 
 abbrev μ-loop : tie.MeasureT-loop
-μ-loop table times preds marks list n digest₀ i₀ t9 t10 digest i = n - i
+μ-loop table digest₀ i₀ t4 t5 digest i = length table - i
 
 pub print-digest-spec : {M : Type 1} → statement M
 print-digest-spec =
@@ -16,9 +17,9 @@ print-digest-spec =
     (tie.spec
     Inv-loop
     μ-loop
-    (λ c κs. search needs)
     (λ c. search needs)
-    (λ c κs. search needs)
+    (λ c. search needs)
+    (λ c. search needs)
     (λ c κs. search needs)
     (λ c. search needs)
     (λ c. search needs)

@@ -1,14 +1,15 @@
 -- `search_test::tables::print_runs` is safe and ends. The measure is the number of entries that are left.
 use borrow.Author.Needs.{needs}
 use Prim.Native.Nat.{_-_}
+use lib.ListN.{length}
 use Rattle.search_test.proofs.tables.print_runs.Statement.{statement}
 use Rattle.search_test.proofs.tables.print_runs.Tie as tie
 
 abbrev Inv-loop : tie.InvT-loop
-Inv-loop table times preds marks list n from₀ i₀ from i = Unit {0}
+Inv-loop table from₀ i₀ from i = Unit {0}
 
 abbrev μ-loop : tie.MeasureT-loop
-μ-loop table times preds marks list n from₀ i₀ from i = n - i
+μ-loop table from₀ i₀ from i = length table - i
 
 pub print-runs-spec : {M : Type 1} → statement M
 print-runs-spec =
@@ -16,7 +17,6 @@ print-runs-spec =
     (tie.spec
     Inv-loop
     μ-loop
-    (λ c κs. search needs)
     (λ c. search needs)
     (λ c. search needs)
     (λ c κs. search needs)

@@ -1,0 +1,31 @@
+-- `search_test::tables::widen_words` is safe and ends. The table keeps its length; the measure is the number of its entries that
+-- are left.
+use borrow.Author.Needs.{needs}
+use Prim.Native.Nat.{_-_}
+use mathlib.Core.Path.{_≡_}
+use lib.ListN.{length}
+use Rattle.search_test.proofs.tables.widen_words.Statement.{statement}
+use Rattle.search_test.proofs.tables.widen_words.Tie as tie
+
+abbrev Inv-loop : tie.InvT-loop
+Inv-loop words table₀ i₀ table i = length table ≡ length table₀
+
+abbrev μ-loop : tie.MeasureT-loop
+μ-loop words table₀ i₀ table i = length table₀ - i
+
+pub widen-words-spec : {M : Type 1} → statement M
+widen-words-spec =
+    tie.close
+    (tie.spec
+    Inv-loop
+    μ-loop
+    (λ c. search needs)
+    (λ c κs. search needs)
+    (λ c. search needs)
+    (λ c. search needs)
+    (λ c. search needs)
+    (λ c. search needs)
+    (λ c. search needs)
+    (λ c. search needs)
+    (λ c. search needs)
+    (λ c. search needs))
