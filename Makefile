@@ -23,12 +23,12 @@ cases: layers
 
 # What would look at page bytes, by the names that the sources use: a slice under another name escapes this.
 LOOKS := \b(page|image)\[|(byte_at|word_at|part_of|command_at)\((page|image)\b
-ABOVE_COMMANDS := layout queue relax page work reference engine tables search panel coil yard
+SEE_NO_BYTES := layout queue relax page work reference engine tables search panel coil yard
 
-# Looks in the sources of the crates above commands for an index of, or a byte read from, a slice called page or image.
+# Looks in the crates that are to see no page bytes for an index of, or a byte read from, a slice called page or image.
 layers:
-	@grep -nE '$(LOOKS)' $(ABOVE_COMMANDS:%=crates/%/src/*.rt); test $$? = 1
-	@echo 'layers: no page bytes looked at in $(ABOVE_COMMANDS)'
+	@grep -nE '$(LOOKS)' $(SEE_NO_BYTES:%=crates/%/src/*.rt); test $$? = 1
+	@echo 'layers: no page bytes looked at in $(SEE_NO_BYTES)'
 
 # The kit's own C code, beside its guides.
 KIT_C = "$$(dirname "$$(rt doc)")/../lib/libos_c.a"

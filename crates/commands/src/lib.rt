@@ -1,14 +1,11 @@
-// The commands of a page (01, "Map image"): which one stands at an offset, how long it is, and (rules.rt) by which
-// rules it is at fault. This is the only crate that looks at the bytes of a page.
+// The commands of a page (01, "Map image"): which one stands at an offset, and how long it is. Only this crate and
+// rules, which judges a command, look at the bytes of a page.
 
 ghost use mathlib.Core.Path.{_≡_};
 ghost use Prim.Native.Nat.{_+_, _≤_, _<_};
 ghost use lib.Dec.{leb};
 ghost use lib.ListN.{length};
 ghost use Rattle.commands.specs.Commands.{lengthOf, moveWith, commandAt};
-
-pub mod rules;
-
 use image::bytes::word_within;
 
 // A move of a page: command `02` or `03`. The limit is the longest strip that it takes, in decimetres; 0 is no limit.

@@ -7,7 +7,7 @@ use Rattle.common.specs.Pick.{pick}
 use Rattle.commands.specs.declared.Move.{Move}
 use Rattle.commands.specs.declared.Command.the-variants.{End, Station, MoveTo, Limited, Fault}
 use Rattle.commands.specs.Commands.{widthOf}
-use Rattle.commands.specs.Rules.{nextOn, judgedAt}
+use Rattle.rules.specs.Rules.{nextOn, judgedAt}
 
 -- A station of a page with its moves in page order.
 pub record Leaving : Type 0 where

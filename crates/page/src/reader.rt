@@ -20,12 +20,12 @@ use commands::MOVE;
 use commands::Move;
 use commands::STATION;
 use commands::length_of;
-use commands::rules::judged_at;
 use layout::moves::END_FROM;
 use layout::moves::PAGE_MOVES;
 use layout::moves::ROOM_FROM;
 use layout::places::STATIONS;
 use layout::places::first_slot;
+use rules::judged_at;
 
 // Begins the row of station v at entry k, without a move yet.
 fn begin_row(layout: &mut [u32], v: usize, k: usize)

@@ -3,7 +3,7 @@
 use Rattle.common.proofs.Ground.{_≡_, refl, _⊎_, inl, inr, ⊎-elim, dite, List, [], _∷_, ℕ, suc, _+_, _≤_, _<_, arith}
 use Rattle.common.proofs.Ground.{ℕ-discrete, add-one, add-zero, add-suc, suc-add, length, drop, length-drop, drop-drop}
 use Rattle.common.proofs.Ground.{eq-eqb, ne-eqb}
-use Rattle.commands.specs.Rules.{firstOn, nextOn}
+use Rattle.rules.specs.Rules.{firstOn, nextOn}
 use Rattle.page.specs.Good.{stationsFrom}
 
 first-cases : (p : ℕ) (ds : List ℕ) (i : ℕ)

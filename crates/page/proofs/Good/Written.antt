@@ -10,11 +10,11 @@ use Rattle.commands.specs.declared.Command.the-variants.{End, Station}
 use Rattle.image.specs.Bytes.{Bytes, allZero}
 use Rattle.page.specs.Reading.{Reading, good, Leaving, withMove, withStation, readFrom, readPage}
 use Rattle.commands.specs.Commands.{lengthOf, widthOf, commandAt}
-use Rattle.commands.specs.Rules.{nextOn}
+use Rattle.rules.specs.Rules.{nextOn}
 use Rattle.page.specs.Good.{GoodMoves, GoodStations, names, GoodContent, codeOf, spellMoves, spellStations}
 use Rattle.page.specs.Good.{spelled}
 use Rattle.commands.proofs.Lengths.{move-width}
-use Rattle.commands.proofs.Judging.{MoveKeeps, Keeps, passes}
+use Rattle.rules.proofs.Judging.{MoveKeeps, Keeps, passes}
 use Rattle.page.proofs.Reading.Steps.{reading, read-step, keeps-move, read-move-step}
 use Rattle.page.proofs.Good.Stations.{listed, listed-cases}
 use Rattle.page.proofs.Good.Promise.{promise}

@@ -15,17 +15,17 @@ use Rattle.commands.specs.declared.Command.{Command}
 use Rattle.commands.specs.declared.Command.the-variants.{End, Station}
 use Rattle.page.specs.Reading.{Reading, good, bad, Leaving, withMove, withStation, movesIn}
 use Rattle.commands.specs.Commands.{lengthOf, widthOf}
-use Rattle.commands.specs.Rules.{nextOn}
+use Rattle.rules.specs.Rules.{nextOn}
 use Rattle.page.specs.Reading.{readFrom, readPage}
 use Rattle.page.specs.Check.{verdictOf}
 use Rattle.page.specs.Open.{isOpen}
 use Rattle.page.specs.Laying.{PageLaid, OthersKept}
 use Rattle.commands.proofs.Lengths.{move-width}
-use Rattle.commands.proofs.Judging.{judged}
+use Rattle.rules.proofs.Judging.{judged}
 use Rattle.page.proofs.Reading.Steps.{foundAt, Found, IsMove, unlimited, limited, FoundMove, found-move}
 use Rattle.page.proofs.Reading.Steps.{reading, read-step}
 use Rattle.page.proofs.Reading.Steps.{read-move-step}
-use Rattle.commands.proofs.Due.{none-before-next, next-is}
+use Rattle.rules.proofs.Due.{none-before-next, next-is}
 use Rattle.page.proofs.Reading.Laying.{Room, Row, written, length-written, end-own, row-begun, row-kept}
 use Rattle.page.proofs.Reading.Laying.{others-kept, Passed, move-passed}
 

@@ -6,9 +6,9 @@ use Rattle.commands.specs.declared.Command.{Command}
 use Rattle.commands.specs.declared.Command.the-variants.{End, Station, MoveTo, Limited, Fault}
 use Rattle.page.specs.Reading.{Reading, good, bad, withMove, withStation, readFrom}
 use Rattle.commands.specs.Commands.{lengthOf, widthOf}
-use Rattle.commands.specs.Rules.{nextOn, judgedAt}
+use Rattle.rules.specs.Rules.{nextOn, judgedAt}
 use Rattle.commands.proofs.Lengths.{MoveStands, OfPage}
-use Rattle.commands.proofs.Judging.{MoveKeeps, Keeps, Judged, judged}
+use Rattle.rules.proofs.Judging.{MoveKeeps, Keeps, Judged, judged}
 
 -- A command that is a move of a code.
 pub data IsMove (m : Move) : ℕ → Command → Type 0 where

@@ -1,11 +1,11 @@
 -- By the command that `command_at` finds: each arm judges it as the definition does, and a fault stays that fault. A
 -- missing station and the next one are told by the slot that is due (proofs/Due.antt).
 use Rattle.common.proofs.Ground.{_≡_, refl, sym, _∙_, ap, ℕ, length, drop, now, needs}
 use Rattle.commands.specs.declared.Command.{Command}
-use Rattle.commands.specs.Rules.{nextOn, judgeEnd, judge, judgedAt}
-use Rattle.commands.proofs.Due.{judged-end-by-slot}
-use Rattle.commands.proofs.rules.judged_at.Statement.{statement}
-use Rattle.commands.proofs.rules.judged_at.Tie as tie
+use Rattle.rules.specs.Rules.{nextOn, judgeEnd, judge, judgedAt}
+use Rattle.rules.proofs.Due.{judged-end-by-slot}
+use Rattle.rules.proofs.judged_at.Statement.{statement}
+use Rattle.rules.proofs.judged_at.Tie as tie
 
 -- The place where a command has been read: what it is judged to be is what the command at the offset is judged to be.
 abbrev start : tie.After-command-at → tie.Start

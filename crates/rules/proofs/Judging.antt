@@ -3,14 +3,14 @@
 use Rattle.common.proofs.Ground.{_≡_, _≢_, refl, subst, true, List, ℕ, _+_, _≤_, _<_, arith, drop, eqb, ltb, leb}
 use Rattle.common.proofs.Ground.{leb-false, ltb-true, ltb-false, eqb-true, eqb-false, ne-eqb, tests}
 use Rattle.common.proofs.Cases.{by-pick}
 use Rattle.commands.specs.declared.Move.{Move}
 use Rattle.commands.specs.declared.Command.{Command}
 use Rattle.commands.specs.declared.Command.the-variants.{End, Station, MoveTo, Limited, Fault}
 use Rattle.image.specs.Bytes.{allZero}
 use Rattle.commands.specs.Commands.{commandAt}
-use Rattle.commands.specs.Rules.{judgeEnd, judgeStation, moveFault, judgeMove, judgeLimited, judge}
-use Rattle.commands.specs.Rules.{judgedAt}
+use Rattle.rules.specs.Rules.{judgeEnd, judgeStation, moveFault, judgeMove, judgeLimited, judge}
+use Rattle.rules.specs.Rules.{judgedAt}
 use Rattle.commands.proofs.Lengths.{OfPage, Stands, stands}
 
 -- The rules that a move keeps: 11, 12 and 13, and a `03` 18.
 pub record MoveKeeps (size after least code : ℕ) (m : Move) : Type 0 where

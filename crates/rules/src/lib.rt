@@ -1,15 +1,16 @@
-// The rules at one command of a page, by its kind: each gives the command itself, or the number of its fault.
+// The rules at one command of a page (01, "Map image"), by its kind: each gives the command itself, or the number of
+// its fault. Only this crate and commands, which reads a command, look at the bytes of a page.
 
 ghost use mathlib.Core.Path.{_≡_};
 ghost use Prim.Native.Nat.{ℕ, _≤_};
 ghost use lib.ListN.{length, drop};
 ghost use Rattle.layout.specs.Places.{Placed};
 ghost use Rattle.layout.specs.Due.{OnPage};
-ghost use Rattle.commands.specs.Rules.{judgeEnd, judgeStation, moveFault, judgeMove, judgeLimited};
-ghost use Rattle.commands.specs.Rules.{judgedAt, nextOn};
-use super::Command;
-use super::Move;
-use super::command_at;
+ghost use Rattle.rules.specs.Rules.{judgeEnd, judgeStation, moveFault, judgeMove, judgeLimited};
+ghost use Rattle.rules.specs.Rules.{judgedAt, nextOn};
+use commands::Command;
+use commands::Move;
+use commands::command_at;
 use image::bytes::zero_from;
 use layout::places::slot_of;
 

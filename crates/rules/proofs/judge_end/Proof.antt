@@ -1,8 +1,8 @@
 -- By the cases of the two tests: a station is still missing; or none is, and the bytes that follow are zero or not.
 use Rattle.common.proofs.Ground.{needs, tests}
-use Rattle.commands.specs.Rules.{judgeEnd}
-use Rattle.commands.proofs.rules.judge_end.Statement.{statement}
-use Rattle.commands.proofs.rules.judge_end.Tie as tie
+use Rattle.rules.specs.Rules.{judgeEnd}
+use Rattle.rules.proofs.judge_end.Statement.{statement}
+use Rattle.rules.proofs.judge_end.Tie as tie
 
 pub judge-end-spec : {M : Type 1} → statement M
 unfolding judgeEnd

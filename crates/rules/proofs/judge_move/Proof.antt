@@ -1,8 +1,8 @@
 -- By whether a rule is broken.
 use Rattle.common.proofs.Ground.{needs, tests, le-ltb}
-use Rattle.commands.specs.Rules.{judgeMove}
-use Rattle.commands.proofs.rules.judge_move.Statement.{statement}
-use Rattle.commands.proofs.rules.judge_move.Tie as tie
+use Rattle.rules.specs.Rules.{judgeMove}
+use Rattle.rules.proofs.judge_move.Statement.{statement}
+use Rattle.rules.proofs.judge_move.Tie as tie
 
 returns : tie.Need-returns
 unfolding judgeMove

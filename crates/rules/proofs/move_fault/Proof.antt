@@ -1,8 +1,8 @@
 -- By the cases of the five tests, in the order of the definition.
 use Rattle.common.proofs.Ground.{needs, tests}
-use Rattle.commands.specs.Rules.{moveFault}
-use Rattle.commands.proofs.rules.move_fault.Statement.{statement}
-use Rattle.commands.proofs.rules.move_fault.Tie as tie
+use Rattle.rules.specs.Rules.{moveFault}
+use Rattle.rules.proofs.move_fault.Statement.{statement}
+use Rattle.rules.proofs.move_fault.Tie as tie
 
 pub move-fault-spec : {M : Type 1} → statement M
 unfolding moveFault

@@ -6,8 +6,8 @@ use Rattle.layout.specs.Places.{Placed, firstSlot, slotOf}
 use Rattle.layout.specs.Due.{Due, Next}
 use Rattle.common.proofs.Cases.{by-order}
 use Rattle.layout.proofs.Due.{due-is-next, next-is-due, due-has-next, due-none-left}
 use Rattle.commands.specs.declared.Command.the-variants.{Station, Fault}
-use Rattle.commands.specs.Rules.{firstOn, nextOn, judgeStation, judgeEnd}
+use Rattle.rules.specs.Rules.{firstOn, nextOn, judgeStation, judgeEnd}
 
 -- the first entry of a page is the page's, and none before it is
 first-is : (p : ℕ) (ds : List ℕ)

@@ -1,8 +1,8 @@
 -- By whether a rule of `02` is broken, and then by the limit.
 use Rattle.common.proofs.Ground.{needs, tests, le-ltb}
-use Rattle.commands.specs.Rules.{judgeLimited}
-use Rattle.commands.proofs.rules.judge_limited.Statement.{statement}
-use Rattle.commands.proofs.rules.judge_limited.Tie as tie
+use Rattle.rules.specs.Rules.{judgeLimited}
+use Rattle.rules.proofs.judge_limited.Statement.{statement}
+use Rattle.rules.proofs.judge_limited.Tie as tie
 
 returns : tie.Need-returns
 unfolding judgeLimited

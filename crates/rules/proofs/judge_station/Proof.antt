@@ -1,10 +1,10 @@
 -- By the cases of the three tests: the station is not below N; no station of the page is left; or its slot is the one
 -- that is due or not (proofs/Due.antt).
 use Rattle.common.proofs.Ground.{sym, _∙_, arith, needs, tests}
-use Rattle.commands.specs.Rules.{judgeStation}
-use Rattle.commands.proofs.Due.{none-is-due, due-passes, other-fails}
-use Rattle.commands.proofs.rules.judge_station.Statement.{statement}
-use Rattle.commands.proofs.rules.judge_station.Tie as tie
+use Rattle.rules.specs.Rules.{judgeStation}
+use Rattle.rules.proofs.Due.{none-is-due, due-passes, other-fails}
+use Rattle.rules.proofs.judge_station.Statement.{statement}
+use Rattle.rules.proofs.judge_station.Tie as tie
 
 returns-2 : tie.Need-returns-2
 returns-2 c p after on =
