@@ -52,6 +52,11 @@ headingCheck image =
     (refused 5 (at-station (firstNotBelow (pageCount image) (directoryOf image))))
     accepted))))
 
+-- The outcome of 1 to 5, and behind it that of what follows where they accept.
+abbrev pub afterHeading : Outcome → Outcome → Outcome
+afterHeading accepted following = following
+afterHeading (refused number place) following = refused number place
+
 -- What the checks' answer says in the paper's numbers.
 abbrev pub placeOf : declared.Place → Place
 placeOf Nowhere = nowhere

@@ -8,8 +8,7 @@ use Rattle.net.specs.Net as net
 use Rattle.net.specs.Net.{Move as NetMove}
 use Rattle.image.specs.Image.{directoryOf}
 use Rattle.commands.proofs.Lengths.{of-page}
-use Rattle.page.specs.Reading.{Reading, Leaving, good, bad, movesIn}
-use Rattle.page.specs.Check.{readingOf}
+use Rattle.page.specs.Reading.{Reading, Leaving, good, bad, readingOf, movesIn}
 use Rattle.page.specs.Open.{openTo}
 use Rattle.page.proofs.Open.{open-shorter}
 use Rattle.page.proofs.Offsets.{FaultBy, reading-by-256}

@@ -7,8 +7,7 @@ use Rattle.net.proofs.Laws.{map-sound}
 use Rattle.commands.specs.declared.Move.{Move}
 use Rattle.image.specs.Bytes.{Bytes}
 use Rattle.image.specs.Image.{directoryOf, headingCheck, accepted}
-use Rattle.page.specs.Reading.{Reading, good, bad, movesIn}
-use Rattle.page.specs.Check.{readingOf}
+use Rattle.page.specs.Reading.{Reading, good, bad, readingOf, movesIn}
 use Rattle.page.specs.Good.{GoodMoves}
 use Rattle.image.proofs.Heading.{formed}
 use Rattle.page.proofs.Good.Moves.{image-moves-good}

@@ -8,9 +8,8 @@ use Rattle.net.specs.Net.{Frame, Page, good, bad}
 use Rattle.net.specs.Net.{Move as NetMove}
 use Rattle.commands.specs.declared.Move.{Move}
 use Rattle.image.specs.Image.{directoryOf}
-use Rattle.page.specs.Reading.{Reading, movesIn}
+use Rattle.page.specs.Reading.{Reading, readingOf, movesIn}
 use Rattle.page.specs.Reading.{good as read-good, bad as read-bad}
-use Rattle.page.specs.Check.{readingOf}
 use Rattle.page.specs.Open.{openTo}
 
 -- What a search knows of a map before it reads a page: N and the page of each station, by the directory.

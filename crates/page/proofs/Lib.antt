@@ -6,6 +6,5 @@ pub mod Agree
 pub mod Good
 -- Which moves are open to a strip.
 pub mod Open
--- The whole check; how large the numbers of a refusal can be.
-pub mod Pages
+-- How large the numbers of a page's fault can be.
 pub mod Offsets

@@ -4,10 +4,13 @@ use Prim.Native.Nat.{ℕ, zero, suc, _+_}
 use lib.ListN.{length}
 use lib.Dec.{eqb}
 use Rattle.common.specs.Pick.{pick}
+use Rattle.image.specs.Image.{directoryOf, pageBytes}
 use Rattle.commands.specs.declared.Move.{Move}
 use Rattle.commands.specs.declared.Command.the-variants.{End, Station, MoveTo, Limited, Fault}
 use Rattle.commands.specs.Commands.{widthOf}
 use Rattle.rules.specs.Rules.{nextOn, judgedAt}
+use Rattle.page.specs.declared.Verdict.{Verdict}
+use Rattle.page.specs.declared.Verdict.the-variants.{Good, Bad}
 
 -- A station of a page with its moves in page order.
 pub record Leaving : Type 0 where
@@ -44,6 +47,14 @@ module _ (directory : List ℕ) (p : ℕ) (page : List ℕ) where
 
   unfoldable pub readPage : Reading
   readPage = readFrom (suc (length page)) 0 0 0
+
+-- What reading page p of an image gives, and what the reader's answer says of it.
+unfoldable pub readingOf : List ℕ → ℕ → Reading
+readingOf image p = readPage (directoryOf image) p (pageBytes image p)
+
+abbrev pub verdictOf : Reading → Verdict
+verdictOf (good moves stations) = Good
+verdictOf (bad number offset) = Bad number offset
 
 -- The moves that a page's content has for station u: those of its entry, or none.
 unfoldable pub movesIn : List Leaving → ℕ → List Move

@@ -1,4 +1,4 @@
-// The answers of the page crate in one shape, and their text.
+// The answers of the page reader and the whole check in one shape, and their text.
 
 use image::Checked;
 use image::Place;
@@ -77,7 +77,7 @@ fn of_check(checked: Checked) -> Answer {
 
 // What the whole check answers for an image.
 pub fn of_image(image: &[u8]) -> Answer {
-    of_check(page::whole::check(image))
+    of_check(whole::check(image))
 }
 
 // What the page reader answers for a page of an image and the longest strip.

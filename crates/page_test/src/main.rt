@@ -1,6 +1,6 @@
-// Runs the page crate over cases from standard input and prints its answers. A case is a kind byte, the label's
-// length (one byte), the image's length (u32, little-endian), the label and the image; tests/make_page_cases.py
-// writes the cases and, by a reader of its own, the text that this program must print.
+// Runs the page reader and the whole check over cases from standard input and prints their answers. A case is a kind
+// byte, the label's length (one byte), the image's length (u32, little-endian), the label and the image;
+// tests/make_page_cases.py writes the cases and, by a reader of its own, the text that this program must print.
 //
 // Kind 1 prints the whole check's answer and, where 1 to 5 accept the image, the page reader's answer for every page.
 // Kind 2 then gives each byte of the image all 256 values in turn, and prints the whole check's answers, a line for

@@ -4,9 +4,8 @@ use Rattle.common.proofs.Ground.{_≡_, refl, ℕ, _≤_, _<_, getD, le-leb, lt
 use Rattle.common.specs.Numbers.{noTime}
 use Rattle.common.proofs.Cases.{never}
 use Rattle.net.specs.Search.{dfSearch}
-use Rattle.image.specs.Image.{Outcome, accepted, refused, nowhere, stationCount, headingCheck}
+use Rattle.image.specs.Image.{Outcome, accepted, refused, nowhere, stationCount, headingCheck, afterHeading}
 use Rattle.image.proofs.Heading.{formed}
-use Rattle.page.specs.Check.{afterHeading}
 use Rattle.search.specs.Reply.{Query, blank, Handed, tooShort, sixOrSeven, callCheck, afterCheck, searched}
 use Rattle.search.proofs.Checking.{Admitted, Decided, turned-down, passed, decided}
 use Rattle.panel.specs.Panel.{answerBy, answerTo}

@@ -7,9 +7,8 @@ use Rattle.common.specs.Numbers.{noTime}
 use Rattle.common.proofs.Cases.{le-or-lt, by-pick}
 use Rattle.net.specs.Net.{isGood}
 use Rattle.image.specs.Bytes.{Bytes}
-use Rattle.image.specs.Image.{Outcome, accepted, refused, nowhere, stationCount, headingCheck}
+use Rattle.image.specs.Image.{Outcome, accepted, refused, nowhere, stationCount, headingCheck, afterHeading}
 use Rattle.image.proofs.Heading.{formed, heading-says}
-use Rattle.page.specs.Check.{afterHeading}
 use Rattle.search.specs.Reply.{Query, frameOf, pagesOf, blank, tooShort}
 use Rattle.search.specs.Promises.{firsts}
 use Rattle.search.proofs.Searches.{few-stations}

@@ -3,8 +3,7 @@
 
 ghost use mathlib.Core.Path.{_≡_};
 ghost use Prim.Native.Nat.{_<_};
-ghost use Rattle.image.specs.Image.{accepted, refused, nowhere, stationCount, headingCheck};
-ghost use Rattle.page.specs.Check.{afterHeading};
+ghost use Rattle.image.specs.Image.{accepted, refused, nowhere, stationCount, headingCheck, afterHeading};
 ghost use Rattle.search.specs.Reply.{asked};
 ghost use Rattle.panel.specs.Panel.{answerBy, answerTo, inside};
 ghost use Rattle.panel.specs.Promises.{InsidePromised};

@@ -3,8 +3,7 @@ use Rattle.common.proofs.Ground.{_≡_, refl, _≢_, dite, List, ℕ, ℕ-discr
 use Rattle.commands.specs.declared.Move.{Move}
 use Rattle.page.specs.declared.Verdict.{Verdict}
 use Rattle.image.specs.Image.{directoryOf}
-use Rattle.page.specs.Reading.{Reading, Leaving, good, bad}
-use Rattle.page.specs.Check.{readingOf, verdictOf}
+use Rattle.page.specs.Reading.{Reading, Leaving, good, bad, readingOf, verdictOf}
 use Rattle.page.specs.Laying.{PageLaid, OthersKept}
 use Rattle.reference.specs.Standing.{PageKnown, Known, Fetched}
 

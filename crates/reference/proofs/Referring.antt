@@ -10,10 +10,9 @@ use Rattle.net.specs.Run.{turnLimit, firstWaiting}
 use Rattle.net.proofs.Steps.Waiting.{first-lowest}
 use Rattle.net.proofs.Runs.{reference-inside, reference-listed, reference-bad, hand-begins}
 use Rattle.commands.specs.declared.Move.{Move}
-use Rattle.page.specs.Reading.{movesIn, bad}
+use Rattle.page.specs.Reading.{readingOf, movesIn, bad}
 use Rattle.page.specs.Open.{openTo}
 use Rattle.page.specs.Laying.{rowFor}
-use Rattle.page.specs.Check.{readingOf}
 use Rattle.layout.specs.Places.{pageAt}
 use Rattle.layout.specs.Rows.{entryOf}
 use Rattle.queue.specs.Keys.{leastIn}

@@ -11,8 +11,7 @@ use Rattle.commands.specs.declared.Move.{Move}
 use Rattle.page.specs.declared.Verdict.{Verdict}
 use Rattle.page.specs.declared.Verdict.the-variants.{Good, Bad}
 use Rattle.image.specs.Image.{directoryOf, pageCount, headingCheck, accepted}
-use Rattle.page.specs.Reading.{Leaving, good, bad}
-use Rattle.page.specs.Check.{readingOf}
+use Rattle.page.specs.Reading.{Leaving, good, bad, readingOf}
 use Rattle.page.specs.Laying.{PageLaid}
 use Rattle.layout.specs.Rows.{endOf}
 use Rattle.relax.specs.Cells.{Memory}

@@ -8,7 +8,7 @@ ghost use Rattle.layout.specs.Places.{Placed};
 ghost use Rattle.reference.specs.Standing.{Known, Fetched};
 use layout::moves::end_of;
 use page::Verdict;
-use page::whole::read_page_of;
+use page::read_page_of;
 
 // Fetches the page of station u.
 pub fn fetch(

@@ -4,9 +4,8 @@ use Rattle.common.proofs.Ground.{_≤_, _<_, arith, length, ltb, leb, lt-leb, l
 use Rattle.common.specs.Pick.{pick}
 use Rattle.common.proofs.Cases.{never}
 use Rattle.image.specs.Image.{Outcome, accepted, refused, Place, nowhere, at-station, on-page}
-use Rattle.image.specs.Image.{stationCount, headingCheck}
+use Rattle.image.specs.Image.{stationCount, headingCheck, afterHeading}
 use Rattle.image.proofs.Heading.{heading-says}
-use Rattle.page.specs.Check.{afterHeading}
 use Rattle.search.specs.Reply.{Query, Lent, tooShort, callCheck}
 
 -- An outcome that names no page.

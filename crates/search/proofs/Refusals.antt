@@ -6,9 +6,8 @@ use Rattle.net.specs.Search as net
 use Rattle.net.specs.Search.{State, Halt, going}
 use Rattle.net.specs.Run.{searchOf}
 use Rattle.image.specs.Bytes.{Bytes}
-use Rattle.image.specs.Image.{Outcome, accepted, refused, stationCount, headingCheck}
+use Rattle.image.specs.Image.{Outcome, accepted, refused, stationCount, headingCheck, afterHeading}
 use Rattle.image.proofs.Heading.{heading-says}
-use Rattle.page.specs.Check.{afterHeading}
 use Rattle.map.proofs.Offered.{bad-page}
 use Rattle.search.specs.Reply.{Query, frameOf, pagesOf, Lent, ended, tooShort, sixOrSeven, callCheck, onMap}
 use Rattle.search.specs.Reply.{afterCheck, searched}

@@ -12,7 +12,7 @@ use Rattle.net.specs.Net.{Frame, Page}
 use Rattle.net.specs.Search as net
 use Rattle.net.specs.Search.{State, Halt, going, reached}
 use Rattle.image.specs.Image.{Outcome, accepted, refused, nowhere, on-page, placeOf, stationCount, headingCheck}
-use Rattle.page.specs.Check.{afterHeading}
+use Rattle.image.specs.Image.{afterHeading}
 use Rattle.map.specs.Map.{mapFrame, mapPage}
 use Rattle.search.specs.declared.Answer.{Answer}
 use Rattle.search.specs.declared.Answer.the-variants.{Accepted, Refused}

@@ -11,8 +11,8 @@ use Rattle.net.specs.Run.{searchOf}
 use Rattle.net.proofs.Basics.Count.{count-le}
 use Rattle.image.specs.Bytes.{Bytes}
 use Rattle.image.specs.Image.{Outcome, accepted, refused, Place, nowhere, at-station, on-page}
-use Rattle.page.specs.Check.{wholeCheck}
-use Rattle.page.proofs.Offsets.{PlaceBy256, whole-by-256}
+use Rattle.whole.specs.Check.{wholeCheck}
+use Rattle.whole.proofs.Offsets.{PlaceBy256, whole-by-256}
 use Rattle.route.specs.Route as route
 use Rattle.route.specs.Route.{Chain, whole, broken, lengthened, chain, predecessorAt}
 use Rattle.route.specs.Route.{found, noRoute, fitted, outcome, handedBack, routeCall}

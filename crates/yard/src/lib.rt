@@ -6,7 +6,7 @@
 
 ghost use mathlib.Core.Path.{_≡_};
 ghost use Rattle.net.specs.Search.{plainSearch, dfSearch};
-ghost use Rattle.page.specs.Check.{wholeCheck};
+ghost use Rattle.whole.specs.Check.{wholeCheck};
 ghost use Rattle.route.specs.Route.{routeCall};
 ghost use Rattle.search.specs.Reply.{asked, lent};
 ghost use Rattle.search.specs.Promises.{Promised, DfPromised};
@@ -36,7 +36,7 @@ pub extern "C" fn yard_check(image: &[u8], answer: &mut [u32]) -> u32
     ensures outcome { λ r. ⌜
         told r (now (answer .exit)) ≡ toldBy (ofCheck (wholeCheck (now (image .entry)))) (now (answer .entry)) ⌝ }
 {
-    tell(of_check(page::whole::check(image)), answer)
+    tell(of_check(whole::check(image)), answer)
 }
 
 // The plain search, Dijkstra's, for a strip of a length in decimetres.

@@ -5,8 +5,7 @@ use Rattle.common.proofs.Cases.{by-pick}
 use Rattle.commands.specs.declared.Move.{Move}
 use Rattle.image.specs.Bytes.{Bytes}
 use Rattle.image.specs.Image.{directoryOf, pageBytes}
-use Rattle.page.specs.Reading.{good, Leaving, movesIn}
-use Rattle.page.specs.Check.{readingOf}
+use Rattle.page.specs.Reading.{good, Leaving, readingOf, movesIn}
 use Rattle.page.specs.Good.{GoodMoves, GoodStations}
 use Rattle.image.proofs.Parts.{bytes-page}
 use Rattle.page.proofs.Good.Promise.{promise}

@@ -16,8 +16,7 @@ use Rattle.commands.specs.declared.Command.the-variants.{End, Station}
 use Rattle.page.specs.Reading.{Reading, good, bad, Leaving, withMove, withStation, movesIn}
 use Rattle.commands.specs.Commands.{lengthOf, widthOf}
 use Rattle.rules.specs.Rules.{nextOn}
-use Rattle.page.specs.Reading.{readFrom, readPage}
-use Rattle.page.specs.Check.{verdictOf}
+use Rattle.page.specs.Reading.{readFrom, readPage, verdictOf}
 use Rattle.page.specs.Open.{isOpen}
 use Rattle.page.specs.Laying.{PageLaid, OthersKept}
 use Rattle.commands.proofs.Lengths.{move-width}

@@ -3,7 +3,7 @@
 -- the function was lent, so that it keeps progress over any layout of before.
 use Rattle.common.proofs.Ground.{_≡_, ap, sym, _∙_, List, ℕ, _+_, _-_, _≤_, _<_, arith, length, now, needs}
 use Rattle.common.proofs.Cases.{never}
-use Rattle.page.specs.Check.{verdictOf}
+use Rattle.page.specs.Reading.{verdictOf}
 use Rattle.commands.specs.declared.Move.{Move}
 use Rattle.commands.specs.declared.Command.{Command}
 use Rattle.commands.specs.declared.Command.the-variants.{MoveTo, Limited}

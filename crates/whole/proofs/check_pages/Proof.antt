@@ -2,11 +2,11 @@
 -- good hands on to the next one, and the first that is bad is the outcome (proofs/Pages.antt).
 use Rattle.common.proofs.Ground.{_≡_, refl, ap, sym, _∙_, _-_, arith, sub-zero, length, now, needs}
 use Rattle.image.specs.Image.{pageCount}
-use Rattle.page.specs.Check.{pagesFrom}
+use Rattle.whole.specs.Check.{pagesFrom}
 use Rattle.image.proofs.Parts.{directory-most}
-use Rattle.page.proofs.Pages.{pages-step, pages-end}
-use Rattle.page.proofs.whole.check_pages.Statement.{statement}
-use Rattle.page.proofs.whole.check_pages.Tie as tie
+use Rattle.whole.proofs.Pages.{pages-step, pages-end}
+use Rattle.whole.proofs.check_pages.Statement.{statement}
+use Rattle.whole.proofs.check_pages.Tie as tie
 
 abbrev Inv-loop : tie.InvT-loop
 Inv-loop image places layout₀ pages p₀ layout p =

@@ -1,11 +1,11 @@
 -- The whole check's loop over the pages: what is left of the pages decides it, and the verdict on a page decides
 -- whether the pages behind it do.
 use Rattle.common.proofs.Ground.{_≡_, refl, List, ℕ, suc, _+_, _-_, _≤_, _<_, arith, add-one}
 use Rattle.page.specs.declared.Verdict.{Verdict}
 use Rattle.page.specs.declared.Verdict.the-variants.{Good, Bad}
 use Rattle.image.specs.Image.{Outcome, accepted, refused, on-page}
-use Rattle.page.specs.Reading.{Reading, good, bad}
-use Rattle.page.specs.Check.{readingOf, verdictOf, pageOutcome, pagesFrom}
+use Rattle.page.specs.Reading.{Reading, good, bad, readingOf, verdictOf}
+use Rattle.whole.specs.Check.{pageOutcome, pagesFrom}
 
 -- The outcome of page p by its verdict, and behind it that of what follows.
 abbrev pub outcomeBy : ℕ → Verdict → Outcome → Outcome

@@ -1,8 +1,8 @@
 -- The directory and the page that the reader is handed are the image's.
 use Rattle.common.proofs.Ground.{needs}
-use Rattle.page.specs.Check.{readingOf}
-use Rattle.page.proofs.whole.read_page_of.Statement.{statement}
-use Rattle.page.proofs.whole.read_page_of.Tie as tie
+use Rattle.page.specs.Reading.{readingOf}
+use Rattle.page.proofs.read_page_of.Statement.{statement}
+use Rattle.page.proofs.read_page_of.Tie as tie
 
 read-page-requires : tie.Need-read-page-requires
 read-page-requires c κs =

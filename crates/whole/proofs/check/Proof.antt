@@ -2,10 +2,10 @@
 -- the pages requires, and that check decides; refused, the refusal is the outcome.
 use Rattle.common.proofs.Ground.{_≡_, sym, ap, _∙_, now, needs}
 use Rattle.image.specs.Image.{accepted, headingCheck, outcomeOf}
-use Rattle.page.specs.Check.{wholeCheck}
+use Rattle.whole.specs.Check.{wholeCheck}
 use Rattle.image.proofs.Heading.{formed}
-use Rattle.page.proofs.whole.check.Statement.{statement}
-use Rattle.page.proofs.whole.check.Tie as tie
+use Rattle.whole.proofs.check.Statement.{statement}
+use Rattle.whole.proofs.check.Tie as tie
 
 heading-accepted : (c : tie.After-enum-told)
     → headingCheck (now (c .before .before .before .before .args .image)) ≡ accepted

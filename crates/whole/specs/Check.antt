@@ -1,18 +1,8 @@
 -- The whole check: "does 1 to 5, then the pages by rising number" (01, "Route, whole check, program").
 use mathlib.Core.List.{List}
 use Prim.Native.Nat.{ℕ, zero, suc}
-use Rattle.page.specs.declared.Verdict.{Verdict}
-use Rattle.page.specs.declared.Verdict.the-variants.{Good, Bad}
-use Rattle.image.specs.Image.{Outcome, accepted, refused, on-page, headingCheck, directoryOf, pageBytes, pageCount}
-use Rattle.page.specs.Reading.{Reading, good, bad, readPage}
-
--- What reading page p of an image gives, and what the reader's answer says of it.
-unfoldable pub readingOf : List ℕ → ℕ → Reading
-readingOf image p = readPage (directoryOf image) p (pageBytes image p)
-
-abbrev pub verdictOf : Reading → Verdict
-verdictOf (good moves stations) = Good
-verdictOf (bad number offset) = Bad number offset
+use Rattle.image.specs.Image.{Outcome, accepted, refused, on-page, headingCheck, afterHeading, pageCount}
+use Rattle.page.specs.Reading.{Reading, good, bad, readingOf}
 
 -- The outcome of one page, and behind it that of what follows where the page is good.
 abbrev pub pageOutcome : ℕ → Reading → Outcome → Outcome
@@ -24,10 +14,6 @@ unfoldable pub pagesFrom : List ℕ → ℕ → ℕ → Outcome
 pagesFrom image zero p = accepted
 pagesFrom image (suc count) p =
     let following = pagesFrom image count (suc p) in pageOutcome p (readingOf image p) following
-
-abbrev pub afterHeading : Outcome → Outcome → Outcome
-afterHeading accepted following = following
-afterHeading (refused number place) following = refused number place
 
 unfoldable pub wholeCheck : List ℕ → Outcome
 wholeCheck image = afterHeading (headingCheck image) (pagesFrom image (pageCount image) 0)
