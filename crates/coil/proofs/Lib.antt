@@ -1,4 +1,3 @@
 -- The laws behind the functions' proofs.
-pub mod Fronting
 pub mod Answering
 pub mod Turns

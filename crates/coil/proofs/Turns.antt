@@ -3,10 +3,9 @@
 use Rattle.common.proofs.Ground.{_≡_, sym, ap, _∙_, Bool, true, false, List, ℕ, _≤_, _<_, arith, length, take}
 use Rattle.common.proofs.Ground.{length-take, take-all, length-take-le, le-leb, lt-leb, eq-eqb, ne-eqb}
 use Rattle.text.specs.Text.{ascii}
-use Rattle.coil.specs.Line.{recordLine}
-use Rattle.coil.specs.Program.{mapOf, hasRecord, turnOf, ReadFrom, Turned}
-use Rattle.coil.specs.Writing.{Fronted}
-use Rattle.coil.proofs.Fronting.{fronted-none}
+use Rattle.line.specs.Writing.{Fronted}
+use Rattle.line.proofs.Fronting.{fronted-none}
+use Rattle.coil.specs.Program.{mapOf, hasRecord, recordLine, turnOf, ReadFrom, Turned}
 
 -- Any bytes of any buffer may have been read so, so that the contracts leave no result free.
 pub some-source : (buffer : List ℕ) (size : ℕ) → ReadFrom (take size buffer) buffer size

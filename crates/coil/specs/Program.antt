@@ -9,8 +9,10 @@ use lib.ListN.{length, take, drop}
 use lib.Dec.{leb, eqb}
 use Rattle.common.specs.Pick.{pick}
 use Rattle.common.specs.Window.{placed}
+use Rattle.net.specs.Search.{dfSearch}
+use Rattle.search.specs.Reply.{asked, blank, searched}
 use Rattle.text.specs.Text.{ascii}
-use Rattle.coil.specs.Line.{recordLine}
+use Rattle.line.specs.Line.{coilOf, lengthOf, stationOf, lineOf}
 
 -- "reads `yard.map` (a file that can't be opened is empty; past 63,492 bytes it counts as 63,493 long)". So long a
 -- map is refused by 4, or by what comes before it, whatever its bytes; a file that can't be opened is given as the
@@ -21,6 +23,13 @@ mapOf file = take 63493 file
 -- "8-byte records on standard input": a record is there if the input has so many bytes.
 abbrev pub hasRecord : List ℕ → Bool
 hasRecord input = leb 8 (length input)
+
+-- "Each record in turn gives the source of a DF search and one line". C-11: "the rule that length has no bearing on the
+-- way is withdrawn", and "Searches take a length": the record's.
+unfoldable pub recordLine : List ℕ → List ℕ → List ℕ
+recordLine image bytes =
+    lineOf (coilOf bytes) (lengthOf bytes) (stationOf bytes)
+    ((searched dfSearch (asked image (stationOf bytes) (lengthOf bytes)) blank) .reply)
 
 -- "One to seven bytes left over print a last line `short`."
 abbrev pub leftOver : List ℕ → List ℕ

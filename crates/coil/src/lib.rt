@@ -7,18 +7,16 @@ ghost use lib.ListN.{length};
 ghost use Rattle.common.specs.Window.{placed};
 ghost use Rattle.net.specs.Search.{dfSearch};
 ghost use Rattle.search.specs.Reply.{asked, blank, replyOf, searched};
-ghost use Rattle.coil.specs.Line.{recordLine};
-use lines::put_line;
-use records::record_of;
+ghost use Rattle.coil.specs.Program.{recordLine};
+use line::lines::put_line;
+use line::records::record_of;
 use search::Answer;
 use search::own::TABLE;
 use search::own::df_times;
 
-mod lines;
 pub mod program;
-mod records;
 
-// The bytes of a line's buffer (specs/Writing.antt, `lineRoom`).
+// The bytes of a line's buffer (line/specs/Writing.antt, `lineRoom`).
 pub const ROOM: usize = 160;
 
 // The search from a station for a strip, on tables with room for every map.

@@ -14,8 +14,8 @@ use Rattle.page.specs.Open.{openTo}
 use Rattle.map.specs.Map.{mapPage}
 use Rattle.search.specs.Reply.{callCheck, onMap, searched}
 use Rattle.text.specs.Text.{ascii, digits}
-use Rattle.coil.specs.Line.{sourceWords, acceptedLine, refusalLine, recordLine}
-use Rattle.coil.specs.Program.{turnOf, linesFrom, printed}
+use Rattle.line.specs.Line.{sourceWords, acceptedLine, refusalLine}
+use Rattle.coil.specs.Program.{recordLine, turnOf, linesFrom, printed}
 use Rattle.course.specs.Cases.{m7}
 
 -- "records `07 00 00 00 B8 1F 00 00` and `08 00 00 00 B8 1F 07 00`"

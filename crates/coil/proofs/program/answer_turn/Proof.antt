@@ -2,7 +2,7 @@
 -- of `answer_record`, or nothing, or `short`.
 use Rattle.common.proofs.Ground.{arith, now, needs}
 use Rattle.text.specs.Text.{ascii}
-use Rattle.coil.proofs.Fronting.{fronted-none, fronted-more}
+use Rattle.line.proofs.Fronting.{fronted-none, fronted-more}
 use Rattle.coil.proofs.Turns.{turned-record, turned-none, turned-short}
 use Rattle.coil.proofs.program.answer_turn.Statement.{statement}
 use Rattle.coil.proofs.program.answer_turn.Tie as tie

@@ -1,7 +1,7 @@
 // A coil record, taken apart: 8 bytes of little-endian numbers.
 
 ghost use mathlib.Core.Path.{_≡_};
-ghost use Rattle.coil.specs.Line.{long, coilOf, lengthOf, stationOf};
+ghost use Rattle.line.specs.Line.{long, coilOf, lengthOf, stationOf};
 use image::bytes::word_at;
 
 pub struct Record {

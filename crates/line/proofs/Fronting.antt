@@ -3,7 +3,7 @@ use Rattle.common.proofs.Ground.{_≡_, refl, ap, sym, _∙_, List, [], _++_, �
 use Rattle.common.proofs.Ground.{length-append}
 use Rattle.common.specs.Window.{placed}
 use Rattle.text.proofs.Placing.{placed-twice}
-use Rattle.coil.specs.Writing.{Fronted}
+use Rattle.line.specs.Writing.{Fronted}
 
 -- A text behind the front of a line.
 pub fronted-none : (before : List ℕ) → Fronted [] before before 0

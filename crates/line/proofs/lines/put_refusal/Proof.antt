@@ -1,10 +1,10 @@
 -- `put_refusal`: two numbers and the line's end, each behind what is written already.
-use Rattle.coil.proofs.Fronting.{fronted-none, fronted-more}
+use Rattle.line.proofs.Fronting.{fronted-none, fronted-more}
 use Rattle.text.specs.Text.{ascii, named}
-use Rattle.coil.specs.Line.{refusalLine}
+use Rattle.line.specs.Line.{refusalLine}
 use Rattle.common.proofs.Ground.{now, needs}
-use Rattle.coil.proofs.lines.put_refusal.Statement.{statement}
-use Rattle.coil.proofs.lines.put_refusal.Tie as tie
+use Rattle.line.proofs.lines.put_refusal.Statement.{statement}
+use Rattle.line.proofs.lines.put_refusal.Tie as tie
 
 returns : tie.Need-returns
 unfolding ascii refusalLine

@@ -1,11 +1,11 @@
--- The line that the program `coils` prints for a record (01, "Route, whole check, program"), as a list of bytes.
+-- A coil record's numbers, and the line that the program `coils` prints by them and by the reply to its search (01,
+-- "Route, whole check, program"), as a list of bytes. Which search that is: coil/specs/Program.antt, `recordLine`.
 use mathlib.Core.List.{List, _++_}
 use Prim.Native.Nat.{ℕ, _+_, _*_}
-use Rattle.net.specs.Search.{dfSearch}
 use Rattle.image.specs.Bytes.{word}
 use Rattle.image.specs.Image.{Outcome, accepted, refused}
 use Rattle.text.specs.Text.{ascii, named}
-use Rattle.search.specs.Reply.{Reply, asked, blank, searched}
+use Rattle.search.specs.Reply.{Reply}
 
 -- "Whole numbers are little-endian": the u32 at an offset.
 abbrev pub long : List ℕ → ℕ → ℕ
@@ -43,10 +43,3 @@ lineBy (refused number place) coil line = refusalLine coil number
 abbrev pub lineOf : ℕ → ℕ → ℕ → Reply → List ℕ
 lineOf coil length station r =
     lineBy (r .outcome) coil (acceptedLine coil length station (r .count) (r .reached))
-
--- "Each record in turn gives the source of a DF search and one line". C-11: "the rule that length has no bearing on the
--- way is withdrawn", and "Searches take a length": the record's.
-unfoldable pub recordLine : List ℕ → List ℕ → List ℕ
-recordLine image bytes =
-    lineOf (coilOf bytes) (lengthOf bytes) (stationOf bytes)
-    ((searched dfSearch (asked image (stationOf bytes) (lengthOf bytes)) blank) .reply)

@@ -1,11 +1,11 @@
 -- `put_source`: each number is put behind the front of the line that is written already (proofs/Fronting.antt). No
 -- place is past the most that three numbers of twenty digits take.
-use Rattle.coil.proofs.Fronting.{fronted-none, fronted-more}
+use Rattle.line.proofs.Fronting.{fronted-none, fronted-more}
 use Rattle.text.specs.Text.{ascii, named}
-use Rattle.coil.specs.Line.{sourceWords}
+use Rattle.line.specs.Line.{sourceWords}
 use Rattle.common.proofs.Ground.{now, needs}
-use Rattle.coil.proofs.lines.put_source.Statement.{statement}
-use Rattle.coil.proofs.lines.put_source.Tie as tie
+use Rattle.line.proofs.lines.put_source.Statement.{statement}
+use Rattle.line.proofs.lines.put_source.Tie as tie
 
 returns : tie.Need-returns
 unfolding ascii sourceWords

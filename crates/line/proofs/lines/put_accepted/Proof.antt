@@ -1,10 +1,10 @@
 -- `put_accepted`: two numbers and the line's end behind what `put_source` wrote.
-use Rattle.coil.proofs.Fronting.{fronted-more}
+use Rattle.line.proofs.Fronting.{fronted-more}
 use Rattle.text.specs.Text.{ascii, named}
-use Rattle.coil.specs.Line.{sourceWords, acceptedLine}
+use Rattle.line.specs.Line.{sourceWords, acceptedLine}
 use Rattle.common.proofs.Ground.{needs}
-use Rattle.coil.proofs.lines.put_accepted.Statement.{statement}
-use Rattle.coil.proofs.lines.put_accepted.Tie as tie
+use Rattle.line.proofs.lines.put_accepted.Statement.{statement}
+use Rattle.line.proofs.lines.put_accepted.Tie as tie
 
 returns : tie.Need-returns
 unfolding ascii sourceWords acceptedLine

@@ -4,8 +4,8 @@
 ghost use Prim.Native.Nat.{_≤_};
 ghost use lib.ListN.{length};
 ghost use Rattle.search.specs.Reply.{replyOf};
-ghost use Rattle.coil.specs.Line.{sourceWords, acceptedLine, refusalLine, lineOf};
-ghost use Rattle.coil.specs.Writing.{lineRoom, Fronted};
+ghost use Rattle.line.specs.Line.{sourceWords, acceptedLine, refusalLine, lineOf};
+ghost use Rattle.line.specs.Writing.{lineRoom, Fronted};
 use super::records::Record;
 use search::Answer;
 use text::put_number;
