@@ -20,7 +20,7 @@ use Rattle.map.proofs.Offered.{bad-page}
 use Rattle.search.specs.Reply.{Query, frameOf, pagesOf, Lent, ended, callCheck, onMap, afterCheck, searched}
 use Rattle.search.proofs.Checking.{NamesNoPage, Admitted, Decided, turned-down, passed, decided}
 use Rattle.search.proofs.Searches.{few-stations, refused-of, short-of}
-use Rattle.yard.specs.Numbers.{numbers, ofOutcome, ofCheck, ofSearch, ofRoute, Small}
+use Rattle.telling.specs.Numbers.{numbers, ofOutcome, ofCheck, ofSearch, ofRoute, Small}
 
 sized : (s c r p o : ℕ) → c ≤ 2048 → r ≤ 2048 → o ≤ 256 → Small (numbers s c r p o)
 sized s c r p o few reached near = record { count = few; reached = reached; offset = near }

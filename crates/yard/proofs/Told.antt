@@ -4,7 +4,7 @@ use Rattle.common.proofs.Ground.{_≡_, ap, sym, _∙_, subst, Bool, List, ℕ}
 use Rattle.net.specs.Run.{searchOf}
 use Rattle.image.specs.Bytes.{Bytes}
 use Rattle.search.specs.Reply.{Query, Lent, Reply, Handed, handed, searched}
-use Rattle.yard.specs.Numbers.{told, toldBy, ofSearch, Small}
+use Rattle.telling.specs.Numbers.{told, toldBy, ofSearch, Small}
 use Rattle.yard.specs.Searches.{SearchTold}
 use Rattle.yard.proofs.Small.{small-search}
 

@@ -1,8 +1,8 @@
 // The C interface (include/yard.h): each call of the engine as a C function. A slice passes as a pointer and a length
-// in entries. What a call answers becomes its status and the four numbers of `answer` (specs/Numbers.antt); what it
-// does to the lent tables is what the engine's call does. A search promises a C caller what it promises every caller
-// (specs/Searches.antt), of the reply that the numbers tell and of the tables as they are left. The panel's call alone
-// has no numbers: its answer is one float (panel/specs/Panel.antt, `outside`).
+// in entries. What a call answers becomes its status and the four numbers of `answer` (telling/specs/Numbers.antt);
+// what it does to the lent tables is what the engine's call does. A search promises a C caller what it promises every
+// caller (specs/Searches.antt), of the reply that the numbers tell and of the tables as they are left. The panel's call
+// alone has no numbers: its answer is one float (panel/specs/Panel.antt, `outside`).
 
 ghost use mathlib.Core.Path.{_≡_};
 ghost use Rattle.net.specs.Search.{plainSearch, dfSearch};
@@ -11,24 +11,13 @@ ghost use Rattle.route.specs.Route.{routeCall};
 ghost use Rattle.search.specs.Reply.{asked, lent};
 ghost use Rattle.search.specs.Promises.{Promised, DfPromised};
 ghost use Rattle.panel.specs.Promises.{OutsidePromised};
-ghost use Rattle.yard.specs.Numbers.{told, toldBy, ofCheck, ofRoute};
+ghost use Rattle.telling.specs.Numbers.{told, toldBy, ofCheck, ofRoute};
 ghost use Rattle.yard.specs.Searches.{SearchTold};
-use answers::of_check;
-use answers::of_route;
-use answers::one_float;
-use answers::tell;
-use answers::tell_search;
-
-mod answers;
-
-// A call's status and its four numbers. `place` is the page or, for refusal 5, the station.
-pub struct Numbers {
-    pub status: u8,
-    pub count: usize,
-    pub reached: usize,
-    pub place: u16,
-    pub offset: usize,
-}
+use telling::answers::of_check;
+use telling::answers::of_route;
+use telling::answers::one_float;
+use telling::answers::tell;
+use telling::answers::tell_search;
 
 // The whole check of a map.
 #[no_mangle]

@@ -1,7 +1,7 @@
 -- The numbers are those of the check's outcome, and small; `tell` puts them into the answer.
 use Rattle.common.proofs.Ground.{_≡_, sym, ap, _∙_, subst, List, ℕ, now, needs}
 use Rattle.whole.specs.Check.{wholeCheck}
-use Rattle.yard.specs.Numbers.{toldBy, ofCheck, Small}
+use Rattle.telling.specs.Numbers.{toldBy, ofCheck, Small}
 use Rattle.yard.proofs.Small.{small-check}
 use Rattle.yard.proofs.yard_check.Statement.{statement}
 use Rattle.yard.proofs.yard_check.Tie as tie

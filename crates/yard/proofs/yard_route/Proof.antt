@@ -1,7 +1,7 @@
 -- The numbers are those of the route's outcome, and small; `tell` puts them into the answer.
 use Rattle.common.proofs.Ground.{_≡_, sym, ap, _∙_, subst, now, needs}
 use Rattle.route.specs.Route.{Handed, routeCall}
-use Rattle.yard.specs.Numbers.{toldBy, ofRoute, Small}
+use Rattle.telling.specs.Numbers.{toldBy, ofRoute, Small}
 use Rattle.yard.proofs.Small.{small-route}
 use Rattle.yard.proofs.yard_route.Statement.{statement}
 use Rattle.yard.proofs.yard_route.Tie as tie

@@ -7,7 +7,7 @@ use Rattle.common.specs.Pick.{pick}
 use Rattle.image.specs.Image.{nowhere, at-station, on-page, Outcome, accepted, refused}
 use Rattle.route.specs.Route as route
 use Rattle.search.specs.Reply.{Reply}
-use Rattle.yard.specs.declared.Numbers.{Numbers}
+use Rattle.telling.specs.declared.Numbers.{Numbers}
 
 -- "Each call returns 0 if accepted, else the refusal's number"; of the answer the first four entries get count,
 -- reached, the page "of a page refusal" or "for refusal 5 the station", and offset, "and numbers that do not apply
@@ -47,7 +47,7 @@ toldBy n answer =
     told (n .status)
     (pick (ltb (length answer) 4) answer (n .count ∷ n .reached ∷ n .place ∷ n .offset ∷ drop 4 answer))
 
--- For the code: numbers that a C caller's 32 bits hold, as those of every outcome are (proofs/Small.antt).
+-- For the code: numbers that a C caller's 32 bits hold, as those of every outcome are (yard/proofs/Small.antt).
 pub record Small (n : Numbers) : Type 0 where
   pub count : n .count ≤ 2048
   pub reached : n .reached ≤ 2048

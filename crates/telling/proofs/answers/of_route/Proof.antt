@@ -1,9 +1,9 @@
 -- Each case of the answer has its numbers by the definition.
 use Rattle.common.proofs.Ground.{ap, sym, _∙_, needs}
 use Rattle.route.specs.Route.{meaning}
-use Rattle.yard.specs.Numbers.{ofRoute}
-use Rattle.yard.proofs.answers.of_route.Statement.{statement}
-use Rattle.yard.proofs.answers.of_route.Tie as tie
+use Rattle.telling.specs.Numbers.{ofRoute}
+use Rattle.telling.proofs.answers.of_route.Statement.{statement}
+use Rattle.telling.proofs.answers.of_route.Tie as tie
 
 returns : tie.Need-returns
 returns c = c .numbers .ensures ∙ ap (λ x. ofRoute (meaning x)) (sym (c .before .before .answer .given .1))

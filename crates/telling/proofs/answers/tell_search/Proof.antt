@@ -1,8 +1,8 @@
 -- The numbers told are those of the answer.
 use Rattle.common.proofs.Ground.{ap, sym, _∙_, subst, now, needs}
-use Rattle.yard.specs.Numbers.{toldBy, Small}
-use Rattle.yard.proofs.answers.tell_search.Statement.{statement}
-use Rattle.yard.proofs.answers.tell_search.Tie as tie
+use Rattle.telling.specs.Numbers.{toldBy, Small}
+use Rattle.telling.proofs.answers.tell_search.Statement.{statement}
+use Rattle.telling.proofs.answers.tell_search.Tie as tie
 
 tell-requires : tie.Need-tell-requires
 tell-requires c κs = subst Small (sym (c .before .of-search .ensures)) (c .before .before .before .pre)

@@ -2,8 +2,8 @@
 use Rattle.common.proofs.Ground.{sym, ap, needs}
 use lib.Ieee.{ofBits, ofInt}
 use Rattle.panel.specs.Panel.{outside}
-use Rattle.yard.proofs.answers.one_float.Statement.{statement}
-use Rattle.yard.proofs.answers.one_float.Tie as tie
+use Rattle.telling.proofs.answers.one_float.Statement.{statement}
+use Rattle.telling.proofs.answers.one_float.Tie as tie
 
 returns-2 : tie.Need-returns-2
 unfolding ofBits ofInt

@@ -2,10 +2,10 @@
 use Rattle.common.proofs.Ground.{ap, sym, _∙_, needs}
 use Rattle.image.specs.declared.Place.{Place}
 use Rattle.image.specs.Image.{refused, placeOf}
-use Rattle.yard.specs.declared.Numbers.{Numbers}
-use Rattle.yard.specs.Numbers.{ofOutcome}
-use Rattle.yard.proofs.answers.of_refusal.Statement.{statement}
-use Rattle.yard.proofs.answers.of_refusal.Tie as tie
+use Rattle.telling.specs.declared.Numbers.{Numbers}
+use Rattle.telling.specs.Numbers.{ofOutcome}
+use Rattle.telling.proofs.answers.of_refusal.Statement.{statement}
+use Rattle.telling.proofs.answers.of_refusal.Tie as tie
 
 abbrev by-place : tie.Start → Place → Numbers
 by-place start place = let a = start .args in ofOutcome (refused (a .refusal .number) (placeOf place)) (a .count) 0

@@ -1,9 +1,9 @@
 -- Each case of the answer has its numbers by the definition.
 use Rattle.common.proofs.Ground.{ap, sym, _∙_, needs}
 use Rattle.search.specs.Reply.{replyOf}
-use Rattle.yard.specs.Numbers.{ofSearch}
-use Rattle.yard.proofs.answers.of_search.Statement.{statement}
-use Rattle.yard.proofs.answers.of_search.Tie as tie
+use Rattle.telling.specs.Numbers.{ofSearch}
+use Rattle.telling.proofs.answers.of_search.Statement.{statement}
+use Rattle.telling.proofs.answers.of_search.Tie as tie
 
 returns : tie.Need-returns
 returns c = c .numbers .ensures ∙ ap (λ x. ofSearch (replyOf x)) (sym (c .before .before .answer .given .1))

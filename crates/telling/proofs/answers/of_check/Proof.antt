@@ -1,9 +1,9 @@
 -- Each case of the answer has its numbers by the definition.
 use Rattle.common.proofs.Ground.{ap, sym, _∙_, needs}
 use Rattle.image.specs.Image.{outcomeOf}
-use Rattle.yard.specs.Numbers.{ofCheck}
-use Rattle.yard.proofs.answers.of_check.Statement.{statement}
-use Rattle.yard.proofs.answers.of_check.Tie as tie
+use Rattle.telling.specs.Numbers.{ofCheck}
+use Rattle.telling.proofs.answers.of_check.Statement.{statement}
+use Rattle.telling.proofs.answers.of_check.Tie as tie
 
 returns : tie.Need-returns
 returns c = c .numbers .ensures ∙ ap (λ x. ofCheck (outcomeOf x)) (sym (c .before .enum-told .given .1))

@@ -6,7 +6,7 @@ ghost use Rattle.image.specs.Image.{refused, placeOf, outcomeOf};
 ghost use Rattle.search.specs.Reply.{replyOf};
 ghost use Rattle.panel.specs.Panel.{outside};
 ghost use Rattle.route.specs.Route.{meaning};
-ghost use Rattle.yard.specs.Numbers.{numbers, told, toldBy, ofOutcome, ofCheck, ofSearch, ofRoute, Small};
+ghost use Rattle.telling.specs.Numbers.{numbers, told, toldBy, ofOutcome, ofCheck, ofSearch, ofRoute, Small};
 use super::Numbers;
 use image::Checked;
 use image::Place;

@@ -1,8 +1,8 @@
 -- A short answer stays as it is; a longer one has its first four entries set one by one (proofs/Four.antt).
 use Rattle.common.proofs.Ground.{arith, set, length-set, now, needs}
-use Rattle.yard.proofs.Four.{put-short, put-four}
-use Rattle.yard.proofs.answers.tell.Statement.{statement}
-use Rattle.yard.proofs.answers.tell.Tie as tie
+use Rattle.telling.proofs.Four.{put-short, put-four}
+use Rattle.telling.proofs.answers.tell.Statement.{statement}
+use Rattle.telling.proofs.answers.tell.Tie as tie
 
 returns : tie.Need-returns
 returns c = put-short (c .before .before .args .n) (now (c .before .before .args .answer)) (c .before .if1 .taken)

@@ -1,7 +1,7 @@
 -- The four numbers put into an answer one by one are the answer's new front; a shorter answer stays as it is.
 use Rattle.common.proofs.Ground.{_≡_, refl, List, [], _∷_, ℕ, _≤_, _<_, arith, length, set, drop, lt-ltb, le-ltb}
-use Rattle.yard.specs.declared.Numbers.{Numbers}
-use Rattle.yard.specs.Numbers.{told, toldBy}
+use Rattle.telling.specs.declared.Numbers.{Numbers}
+use Rattle.telling.specs.Numbers.{told, toldBy}
 
 front : (l : List ℕ) (a b c d : ℕ) → 4 ≤ length l → set (set (set (set l 0 a) 1 b) 2 c) 3 d ≡ a ∷ b ∷ c ∷ d ∷ drop 4 l
 front [] a b c d h = absurd (omega arith)

@@ -1,0 +1,12 @@
+// What the C interface tells its caller: of each call's answer a status and four numbers, and of the panel's one float.
+
+pub mod answers;
+
+// A call's status and its four numbers. `place` is the page or, for refusal 5, the station.
+pub struct Numbers {
+    pub status: u8,
+    pub count: usize,
+    pub reached: usize,
+    pub place: u16,
+    pub offset: usize,
+}
