@@ -3,7 +3,7 @@
 -- is offered to every shorter one; and a page that offers nothing gives the number and offset of a page's refusal.
 use Rattle.common.proofs.Ground.{_≡_, refl, List, [], _∷_, List·Memᴰ, ℕ, _≤_, getD}
 use Rattle.common.proofs.Cases.{never}
-use Rattle.net.specs.Net.{Page, Frame, Goes, movesOf, count, timesIn, movesTo, entersFrom, isEntry, entryStations}
+use Rattle.net.specs.Net.{Page, Frame, frame, Goes, movesOf, count, timesIn, movesTo, entersFrom, isEntry, entryStations}
 use Rattle.net.specs.Net as net
 use Rattle.net.specs.Net.{Move as NetMove}
 use Rattle.image.specs.Image.{directoryOf}
@@ -12,7 +12,7 @@ use Rattle.page.specs.Reading.{Reading, Leaving, good, bad, readingOf, movesIn}
 use Rattle.page.specs.Open.{openTo}
 use Rattle.page.proofs.Open.{open-shorter}
 use Rattle.page.proofs.Offsets.{FaultBy, reading-by-256}
-use Rattle.map.specs.Map.{frame, mapFrame, netMove, offered, mapPage}
+use Rattle.map.specs.Map.{mapFrame, netMove, offered, mapPage}
 
 -- Station 0 on page 0 has moves to stations 1 and 2 on page 1; the second takes strips of up to 100 decimetres.
 abbrev twoPages : Frame

@@ -2,9 +2,7 @@
 -- strip of a length.
 use mathlib.Core.List.{List, map}
 use Prim.Native.Nat.{ℕ}
-use lib.ListN.{length, getD}
-use Rattle.common.specs.Numbers.{noTime}
-use Rattle.net.specs.Net.{Frame, Page, good, bad}
+use Rattle.net.specs.Net.{Frame, frame, Page, good, bad}
 use Rattle.net.specs.Net.{Move as NetMove}
 use Rattle.commands.specs.declared.Move.{Move}
 use Rattle.image.specs.Image.{directoryOf}
@@ -13,9 +11,6 @@ use Rattle.page.specs.Reading.{good as read-good, bad as read-bad}
 use Rattle.page.specs.Open.{openTo}
 
 -- What a search knows of a map before it reads a page: N and the page of each station, by the directory.
-abbrev pub frame : List ℕ → Frame
-frame directory = record { size = length directory; pageOf = λ v. getD directory v 0; none = noTime }
-
 abbrev pub mapFrame : List ℕ → Frame
 mapFrame image = frame (directoryOf image)
 

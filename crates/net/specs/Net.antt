@@ -2,7 +2,9 @@
 use mathlib.Core.List.{List, [], _∷_, List·Memᴰ}
 use mathlib.Core.Bool.{Bool, true, false, not, _&&_, _||_}
 use Prim.Native.Nat.{ℕ, zero, suc, _+_}
+use lib.ListN.{length, getD}
 use lib.Dec.{ltb, eqb}
+use Rattle.common.specs.Numbers.{noTime}
 
 -- A move: its target, and its weight, which is what it adds to the cost of a walk (01: its time).
 pub record Move : Type 0 where
@@ -21,6 +23,10 @@ pub record Frame : Type 0 where
   pub size : ℕ
   pub pageOf : ℕ → ℕ
   pub none : ℕ
+
+-- A map's frame, by its directory, which has an entry for each station: its page.
+abbrev pub frame : List ℕ → Frame
+frame directory = record { size = length directory; pageOf = λ v. getD directory v 0; none = noTime }
 
 abbrev pub isGood : Page → Bool
 isGood (good moves) = true

@@ -7,7 +7,7 @@ use Rattle.common.specs.Numbers.{noTime}
 use Rattle.common.specs.Window.{placed}
 use Rattle.common.proofs.Cases.{never}
 use Rattle.common.proofs.Windows.{placed-window}
-use Rattle.net.specs.Net.{Frame}
+use Rattle.net.specs.Net.{Frame, frame}
 use Rattle.net.specs.Search as net
 use Rattle.net.specs.Search.{State, Halt, going, reached, plainSearch, dfSearch}
 use Rattle.net.specs.Run.{searchOf}
@@ -17,7 +17,7 @@ use Rattle.image.specs.Image.{Outcome, accepted, refused, on-page, stationCount
 use Rattle.image.specs.Image.{AgreeOnHeading, AgreeOnDirectory, AgreeOnPage}
 use Rattle.image.proofs.Agree.{stations-agree, heading-agrees}
 use Rattle.page.proofs.Agree.{reading-agrees}
-use Rattle.map.specs.Map.{frame, offered, mapPage}
+use Rattle.map.specs.Map.{offered, mapPage}
 use Rattle.map.proofs.Offered.{goes-shorter}
 use Rattle.search.specs.Reply.{Query, withImage, withStrip, frameOf, pagesOf, Lent, Handed, reply, ended}
 use Rattle.search.specs.Reply.{tooShort, callCheck, onMap, afterCheck, searched, listOf}

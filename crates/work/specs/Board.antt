@@ -10,14 +10,13 @@ use Rattle.common.specs.Numbers.{noTime, sourceMark, noPred, nobody}
 use Rattle.common.specs.Pick.{pick}
 use Rattle.net.specs.declared.Choice.{Choice}
 use Rattle.net.specs.declared.Choice.the-variants.{Station, Nobody}
-use Rattle.net.specs.Net.{Page, Frame}
+use Rattle.net.specs.Net.{Page, Frame, frame}
 use Rattle.net.specs.Search.{State, timeOf, predOf}
 use Rattle.net.specs.Run.{waits}
 use Rattle.net.proofs.Sound.{Sound}
 use Rattle.layout.specs.Places.{firstSlot, slotOf, Placed}
 use Rattle.queue.specs.Keys.{packed, leastFrom}
 use Rattle.relax.specs.Cells.{Memory, Room}
-use Rattle.map.specs.Map.{frame}
 
 -- The cell of station v: the source's is 0, nobody's where v has no time, and otherwise time and predecessor.
 pub record CellIs (source v time pred cell : ℕ) : Type 0 where
