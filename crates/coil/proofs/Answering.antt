@@ -1,7 +1,7 @@
 -- The line of a record's parts and of the reply to it is the record's line.
 use Rattle.common.proofs.Ground.{_≡_, List, ℕ}
 use Rattle.net.specs.Search.{dfSearch}
-use Rattle.search.specs.Reply.{asked, blank, Reply, searched}
+use Rattle.reply.specs.Reply.{asked, blank, Reply, searched}
 use Rattle.line.specs.Line.{coilOf, lengthOf, stationOf, lineOf}
 use Rattle.coil.specs.Program.{recordLine}
 

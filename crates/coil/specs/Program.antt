@@ -10,7 +10,7 @@ use lib.Dec.{leb, eqb}
 use Rattle.common.specs.Pick.{pick}
 use Rattle.common.specs.Window.{placed}
 use Rattle.net.specs.Search.{dfSearch}
-use Rattle.search.specs.Reply.{asked, blank, searched}
+use Rattle.reply.specs.Reply.{asked, blank, searched}
 use Rattle.text.specs.Text.{ascii}
 use Rattle.line.specs.Line.{coilOf, lengthOf, stationOf, lineOf}
 

@@ -6,11 +6,11 @@ ghost use Prim.Native.Nat.{_≤_};
 ghost use lib.ListN.{length};
 ghost use Rattle.common.specs.Window.{placed};
 ghost use Rattle.net.specs.Search.{dfSearch};
-ghost use Rattle.search.specs.Reply.{asked, blank, replyOf, searched};
+ghost use Rattle.reply.specs.Reply.{asked, blank, replyOf, searched};
 ghost use Rattle.coil.specs.Program.{recordLine};
 use line::lines::put_line;
 use line::records::record_of;
-use search::Answer;
+use reply::Answer;
 use search::own::TABLE;
 use search::own::df_times;
 

@@ -15,7 +15,7 @@ use Rattle.rules.specs.Rules.{judge, judgedAt}
 use Rattle.page.specs.Reading.{readFrom, readPage, readingOf, movesIn}
 use Rattle.page.specs.Open.{openTo}
 use Rattle.map.specs.Map.{mapFrame, mapPage}
-use Rattle.search.specs.Reply.{callCheck, onMap, searched}
+use Rattle.reply.specs.Reply.{callCheck, onMap, searched}
 use Rattle.course.specs.Limits.{m7Limited, found, bothOpen, firstClosed, bothClosed}
 
 pub record Closing : Type 0 where

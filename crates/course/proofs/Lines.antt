@@ -12,7 +12,7 @@ use Rattle.rules.specs.Rules.{judge, judgedAt}
 use Rattle.page.specs.Reading.{readFrom, readPage, readingOf, movesIn}
 use Rattle.page.specs.Open.{openTo}
 use Rattle.map.specs.Map.{mapPage}
-use Rattle.search.specs.Reply.{callCheck, onMap, searched}
+use Rattle.reply.specs.Reply.{callCheck, onMap, searched}
 use Rattle.text.specs.Text.{ascii, digits}
 use Rattle.line.specs.Line.{sourceWords, acceptedLine, refusalLine}
 use Rattle.coil.specs.Program.{recordLine, turnOf, linesFrom, printed}

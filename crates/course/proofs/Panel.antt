@@ -14,7 +14,7 @@ use Rattle.rules.specs.Rules.{judge, judgedAt}
 use Rattle.page.specs.Reading.{readFrom, readPage, readingOf, movesIn}
 use Rattle.page.specs.Open.{openTo}
 use Rattle.map.specs.Map.{mapPage}
-use Rattle.search.specs.Reply.{asked, callCheck, onMap, searched}
+use Rattle.reply.specs.Reply.{asked, callCheck, onMap, searched}
 use Rattle.panel.specs.Panel.{time, unreached, turnedDown, answerTo, inside, outside}
 use Rattle.course.specs.Cases.{m7, m7Bad, courseStrip}
 use Rattle.course.specs.Limits.{m7Limited}

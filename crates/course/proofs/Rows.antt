@@ -13,7 +13,7 @@ use Rattle.rules.specs.Rules.{judge, judgedAt}
 use Rattle.page.specs.Reading.{readFrom, readPage, readingOf, movesIn}
 use Rattle.page.specs.Open.{openTo}
 use Rattle.map.specs.Map.{mapPage}
-use Rattle.search.specs.Reply.{callCheck, onMap, searched}
+use Rattle.reply.specs.Reply.{callCheck, onMap, searched}
 use Rattle.route.specs.Route.{chain, outcome, routeCall}
 use Rattle.course.specs.Cases.{Case, shown, cases}
 

@@ -17,7 +17,7 @@ use Rattle.rules.specs.Rules.{judge, judgedAt}
 use Rattle.page.specs.Reading.{readFrom, readPage, readingOf, movesIn}
 use Rattle.page.specs.Open.{openTo}
 use Rattle.map.specs.Map.{mapFrame, mapPage}
-use Rattle.search.specs.Reply.{asked, Handed, callCheck, onMap, searched, listOf}
+use Rattle.reply.specs.Reply.{asked, Handed, callCheck, onMap, searched, listOf}
 use Rattle.search.specs.Promises.{SameLengths}
 use Rattle.course.specs.Cases.{m7, m7Bad, lentFor, courseStrip, ours, dijkstras}
 use Rattle.course.specs.Wrong.{Wrong, Refused, wrongVersions, refusesAll, dijkstrasOwnList, pageLeftOut}

@@ -7,7 +7,7 @@ use Rattle.common.specs.Numbers.{noTime, sourceMark}
 use Rattle.net.specs.Net.{onePageReads}
 use Rattle.net.specs.Search.{plainSearch, dfSearch}
 use Rattle.image.specs.Image.{Place, nowhere, at-station, on-page, Outcome, accepted, refused, stationCount}
-use Rattle.search.specs.Reply.{asked, Lent, lent, Handed, searched, listOf}
+use Rattle.reply.specs.Reply.{asked, Lent, lent, Handed, searched, listOf}
 use Rattle.route.specs.Route as route
 use Rattle.route.specs.Route.{stations, unreached, turnedDown, routeCall}
 

@@ -5,7 +5,7 @@ use Prim.Native.Nat.{ℕ}
 use Rattle.common.specs.Numbers.{noTime}
 use Rattle.net.specs.Net.{entryStations}
 use Rattle.net.specs.Search.{plainSearch, dfSearch}
-use Rattle.search.specs.Reply.{Query, asked, frameOf, pagesOf, NetSearch, Handed, searched, listOf}
+use Rattle.reply.specs.Reply.{Query, asked, frameOf, pagesOf, NetSearch, Handed, searched, listOf}
 use Rattle.course.specs.Cases.{paged, m7Heading, m7Second, lentFor}
 
 -- M7 with two limits: move 0-4/2 takes strips of up to 10,000 decimetres (10 27 in bytes), and 3-5/3 up to 12,000

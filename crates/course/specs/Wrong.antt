@@ -7,7 +7,7 @@ use lib.ListN.{take, replicate}
 use Rattle.common.specs.Numbers.{noTime, sourceMark, noPred}
 use Rattle.net.specs.Search.{dfSearch}
 use Rattle.image.specs.Image.{accepted, refused, nowhere}
-use Rattle.search.specs.Reply.{asked, reply, Handed, handed, lent}
+use Rattle.reply.specs.Reply.{asked, reply, Handed, handed, lent}
 use Rattle.search.specs.Promises.{TimesAreLeast, ListAgainstDijkstra, SameOnListedPages, NoLessThanShorter}
 use Rattle.course.specs.Cases.{m7, m7Bad, lentFor, courseStrip, ours}
 

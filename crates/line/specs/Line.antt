@@ -5,7 +5,7 @@ use Prim.Native.Nat.{ℕ, _+_, _*_}
 use Rattle.image.specs.Bytes.{word}
 use Rattle.image.specs.Image.{Outcome, accepted, refused}
 use Rattle.text.specs.Text.{ascii, named}
-use Rattle.search.specs.Reply.{Reply}
+use Rattle.reply.specs.Reply.{Reply}
 
 -- "Whole numbers are little-endian": the u32 at an offset.
 abbrev pub long : List ℕ → ℕ → ℕ

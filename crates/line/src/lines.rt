@@ -3,11 +3,11 @@
 
 ghost use Prim.Native.Nat.{_≤_};
 ghost use lib.ListN.{length};
-ghost use Rattle.search.specs.Reply.{replyOf};
+ghost use Rattle.reply.specs.Reply.{replyOf};
 ghost use Rattle.line.specs.Line.{sourceWords, acceptedLine, refusalLine, lineOf};
 ghost use Rattle.line.specs.Writing.{lineRoom, Fronted};
 use super::records::Record;
-use search::Answer;
+use reply::Answer;
 use text::put_number;
 use text::put_text;
 

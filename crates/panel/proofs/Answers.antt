@@ -6,8 +6,8 @@ use Rattle.common.proofs.Cases.{never}
 use Rattle.net.specs.Search.{dfSearch}
 use Rattle.image.specs.Image.{Outcome, accepted, refused, nowhere, stationCount, headingCheck, afterHeading}
 use Rattle.image.proofs.Heading.{formed}
-use Rattle.search.specs.Reply.{Query, blank, Handed, tooShort, sixOrSeven, callCheck, afterCheck, searched}
-use Rattle.search.proofs.Checking.{Admitted, Decided, turned-down, passed, decided}
+use Rattle.reply.specs.Reply.{Query, blank, Handed, tooShort, sixOrSeven, callCheck, afterCheck, searched}
+use Rattle.reply.proofs.Checking.{Admitted, Decided, turned-down, passed, decided}
 use Rattle.panel.specs.Panel.{answerBy, answerTo}
 
 module _ (q : Query) where

@@ -9,12 +9,12 @@ use Rattle.net.specs.Net.{isGood}
 use Rattle.image.specs.Bytes.{Bytes}
 use Rattle.image.specs.Image.{Outcome, accepted, refused, nowhere, stationCount, headingCheck, afterHeading}
 use Rattle.image.proofs.Heading.{formed, heading-says}
-use Rattle.search.specs.Reply.{Query, frameOf, pagesOf, blank, tooShort}
+use Rattle.reply.specs.Reply.{Query, frameOf, pagesOf, blank, tooShort}
 use Rattle.search.specs.Promises.{firsts}
-use Rattle.search.proofs.Searches.{few-stations}
+use Rattle.reply.proofs.Searches.{few-stations}
 use Rattle.search.proofs.Promising.{promised-of}
-use Rattle.search.proofs.Refusals.{Numbered, RefusalNumbered, search-numbered}
-use Rattle.search.proofs.Greatest.{greatest-time}
+use Rattle.reply.proofs.Refusals.{Numbered, RefusalNumbered, search-numbered}
+use Rattle.reply.proofs.Greatest.{greatest-time}
 use Rattle.panel.specs.declared.Shown.{Shown}
 use Rattle.panel.specs.Panel.{float, Answer, time, unreached, turnedDown, answerBy, answerTo, inside, outside}
 use Rattle.panel.specs.Promises as read

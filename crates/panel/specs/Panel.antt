@@ -9,7 +9,7 @@ use Rattle.common.specs.Numbers.{noTime}
 use Rattle.common.specs.Pick.{pick}
 use Rattle.net.specs.Search.{dfSearch}
 use Rattle.image.specs.Image.{Outcome, accepted, refused, nowhere, stationCount, headingCheck, afterHeading}
-use Rattle.search.specs.Reply.{Query, blank, searched}
+use Rattle.reply.specs.Reply.{Query, blank, searched}
 use Rattle.panel.specs.declared.Shown.{Shown}
 use Rattle.panel.specs.declared.Shown.the-variants.{Tenths, NoRoute, Refused}
 

@@ -6,7 +6,7 @@ use Prim.Native.Nat.{ℕ, _+_, _≤_}
 use lib.Ieee.{Float}
 use lib.Ieee.Exact.{HasValue}
 use Rattle.net.specs.Net.{isGood, Walk}
-use Rattle.search.specs.Reply.{Query, frameOf, pagesOf}
+use Rattle.reply.specs.Reply.{Query, frameOf, pagesOf}
 use Rattle.panel.specs.declared.Shown.{Shown}
 use Rattle.panel.specs.declared.Shown.the-variants.{Tenths, NoRoute, Refused}
 use Rattle.panel.specs.Panel.{Answer, time, unreached, turnedDown, answerTo, inside, outside}

@@ -4,14 +4,14 @@
 ghost use mathlib.Core.Path.{_≡_};
 ghost use Prim.Native.Nat.{_<_};
 ghost use Rattle.image.specs.Image.{accepted, refused, nowhere, stationCount, headingCheck, afterHeading};
-ghost use Rattle.search.specs.Reply.{asked};
+ghost use Rattle.reply.specs.Reply.{asked};
 ghost use Rattle.panel.specs.Panel.{answerBy, answerTo, inside};
 ghost use Rattle.panel.specs.Promises.{InsidePromised};
 use common::NO_TIME;
 use image::Checked;
 use image::check_heading;
 use image::station_count;
-use search::Answer;
+use reply::Answer;
 use search::own::TABLE;
 use search::own::df_times;
 

@@ -19,12 +19,12 @@ use Rattle.image.proofs.Agree.{stations-agree, heading-agrees}
 use Rattle.page.proofs.Agree.{reading-agrees}
 use Rattle.map.specs.Map.{offered, mapPage}
 use Rattle.map.proofs.Offered.{goes-shorter}
-use Rattle.search.specs.Reply.{Query, withImage, withStrip, frameOf, pagesOf, Lent, Handed, reply, ended}
-use Rattle.search.specs.Reply.{tooShort, callCheck, onMap, afterCheck, searched, listOf}
+use Rattle.reply.specs.Reply.{Query, withImage, withStrip, frameOf, pagesOf, Lent, Handed, reply, ended}
+use Rattle.reply.specs.Reply.{tooShort, callCheck, onMap, afterCheck, searched, listOf}
 use Rattle.search.specs.Promises.{SameLengths, firsts, TimesAreLeast, PageIsFirstBad}
 use Rattle.search.specs.Promises.{ListAgainstDijkstra, NoLessThanShorter, Promised, DfPromised}
-use Rattle.search.proofs.Checking.{Admitted, Decided, turned-down, passed, decided, passes}
-use Rattle.search.proofs.Searches.{found, local-of, size-of, sound-of, least-of, refused-of}
+use Rattle.reply.proofs.Checking.{Admitted, Decided, turned-down, passed, decided, passes}
+use Rattle.reply.proofs.Searches.{found, local-of, size-of, sound-of, least-of, refused-of}
 
 -- the front that was written
 front-of : (table entries : List ℕ) (n : ℕ) → length entries ≡ n → take n (placed table 0 entries) ≡ entries

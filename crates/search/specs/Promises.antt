@@ -9,8 +9,8 @@ use Rattle.common.specs.Numbers.{noTime}
 use Rattle.net.specs.Search.{plainSearch, dfSearch}
 use Rattle.net.specs.Demands.{LeastTimes, RefusedPage, ListOf}
 use Rattle.image.specs.Image.{accepted, refused, on-page, stationCount, AgreeOnHeading, AgreeOnDirectory, AgreeOnPage}
-use Rattle.search.specs.Reply.{Query, withImage, withStrip, frameOf, pagesOf, NetSearch, Lent, Handed}
-use Rattle.search.specs.Reply.{searched, listOf}
+use Rattle.reply.specs.Reply.{Query, withImage, withStrip, frameOf, pagesOf, NetSearch, Lent, Handed}
+use Rattle.reply.specs.Reply.{searched, listOf}
 
 -- Tables of the same lengths.
 pub record SameLengths (t other : Lent) : Type 0 where

@@ -3,9 +3,9 @@
 
 ghost use mathlib.Core.Path.{_≡_};
 ghost use Rattle.net.specs.Search.{dfSearch};
-ghost use Rattle.search.specs.Reply.{asked, roomy, replyOf, searched};
-use super::Answer;
+ghost use Rattle.reply.specs.Reply.{asked, roomy, replyOf, searched};
 use super::calls::df;
+use reply::Answer;
 
 // The entries of a table with room for every map.
 pub const TABLE: usize = 2048;

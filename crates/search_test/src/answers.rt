@@ -4,7 +4,7 @@ use cases_io::print_number;
 use image::Place;
 use image::Refusal;
 use libc::STDOUT_FILENO;
-use search::Answer;
+use reply::Answer;
 
 fn print_accepted(count: usize, reached: usize) {
     print_number(b"accepted, count ", count as u64);

@@ -19,7 +19,7 @@ use cases_io::read_map;
 use image::bytes::word_at;
 use libc::STDIN_FILENO;
 use libc::STDOUT_FILENO;
-use search::Answer;
+use reply::Answer;
 use tables::ENTRIES;
 use tables::print_bytes;
 use tables::print_table;

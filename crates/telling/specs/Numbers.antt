@@ -6,7 +6,7 @@ use lib.ListN.{length, drop}
 use Rattle.common.specs.Pick.{pick}
 use Rattle.image.specs.Image.{nowhere, at-station, on-page, Outcome, accepted, refused}
 use Rattle.route.specs.Route as route
-use Rattle.search.specs.Reply.{Reply}
+use Rattle.reply.specs.Reply.{Reply}
 use Rattle.telling.specs.declared.Numbers.{Numbers}
 
 -- "Each call returns 0 if accepted, else the refusal's number"; of the answer the first four entries get count,

@@ -3,7 +3,7 @@
 
 ghost use mathlib.Core.Path.{_≡_};
 ghost use Rattle.image.specs.Image.{refused, placeOf, outcomeOf};
-ghost use Rattle.search.specs.Reply.{replyOf};
+ghost use Rattle.reply.specs.Reply.{replyOf};
 ghost use Rattle.panel.specs.Panel.{outside};
 ghost use Rattle.route.specs.Route.{meaning};
 ghost use Rattle.telling.specs.Numbers.{numbers, told, toldBy, ofOutcome, ofCheck, ofSearch, ofRoute, Small};
@@ -12,8 +12,8 @@ use image::Checked;
 use image::Place;
 use image::Refusal;
 use panel::Shown;
+use reply::Answer;
 use route::RouteAnswer;
-use search::Answer;
 
 fn numbers(status: u8, count: usize, reached: usize, place: u16, offset: usize) -> Numbers
     ensures value { λ r. ⌜ r ≡ numbers status count reached place offset ⌝ }

@@ -17,9 +17,9 @@ use Rattle.route.specs.Route as route
 use Rattle.route.specs.Route.{Chain, whole, broken, lengthened, chain, predecessorAt}
 use Rattle.route.specs.Route.{found, noRoute, fitted, outcome, handedBack, routeCall}
 use Rattle.map.proofs.Offered.{bad-page}
-use Rattle.search.specs.Reply.{Query, frameOf, pagesOf, Lent, ended, callCheck, onMap, afterCheck, searched}
-use Rattle.search.proofs.Checking.{NamesNoPage, Admitted, Decided, turned-down, passed, decided}
-use Rattle.search.proofs.Searches.{few-stations, refused-of, short-of}
+use Rattle.reply.specs.Reply.{Query, frameOf, pagesOf, Lent, ended, callCheck, onMap, afterCheck, searched}
+use Rattle.reply.proofs.Checking.{NamesNoPage, Admitted, Decided, turned-down, passed, decided}
+use Rattle.reply.proofs.Searches.{few-stations, refused-of, short-of}
 use Rattle.telling.specs.Numbers.{numbers, ofOutcome, ofCheck, ofSearch, ofRoute, Small}
 
 sized : (s c r p o : ℕ) → c ≤ 2048 → r ≤ 2048 → o ≤ 256 → Small (numbers s c r p o)

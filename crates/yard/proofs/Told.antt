@@ -3,7 +3,7 @@
 use Rattle.common.proofs.Ground.{_≡_, ap, sym, _∙_, subst, Bool, List, ℕ}
 use Rattle.net.specs.Run.{searchOf}
 use Rattle.image.specs.Bytes.{Bytes}
-use Rattle.search.specs.Reply.{Query, Lent, Reply, Handed, handed, searched}
+use Rattle.reply.specs.Reply.{Query, Lent, Reply, Handed, handed, searched}
 use Rattle.telling.specs.Numbers.{told, toldBy, ofSearch, Small}
 use Rattle.yard.specs.Searches.{SearchTold}
 use Rattle.yard.proofs.Small.{small-search}

@@ -3,7 +3,7 @@
 use mathlib.Core.Path.{_≡_}
 use mathlib.Core.List.{List}
 use Prim.Native.Nat.{ℕ}
-use Rattle.search.specs.Reply.{Query, NetSearch, Lent, Handed, handed, searched}
+use Rattle.reply.specs.Reply.{Query, NetSearch, Lent, Handed, handed, searched}
 use Rattle.telling.specs.Numbers.{told, toldBy, ofSearch}
 
 pub record SearchTold (search : NetSearch) (Promise : Query → Lent → Handed → Type 0) (q : Query) (t left : Lent)

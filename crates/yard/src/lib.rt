@@ -8,7 +8,7 @@ ghost use mathlib.Core.Path.{_≡_};
 ghost use Rattle.net.specs.Search.{plainSearch, dfSearch};
 ghost use Rattle.whole.specs.Check.{wholeCheck};
 ghost use Rattle.route.specs.Route.{routeCall};
-ghost use Rattle.search.specs.Reply.{asked, lent};
+ghost use Rattle.reply.specs.Reply.{asked, lent};
 ghost use Rattle.search.specs.Promises.{Promised, DfPromised};
 ghost use Rattle.panel.specs.Promises.{OutsidePromised};
 ghost use Rattle.telling.specs.Numbers.{told, toldBy, ofCheck, ofRoute};

@@ -4,7 +4,7 @@ use Rattle.common.proofs.Ground.{_≡_, sym, ap, _∙_, _<_, arith, now, needs}
 use Rattle.common.specs.Numbers.{noTime}
 use Rattle.common.proofs.Windows.{any-default}
 use Rattle.image.specs.Image.{accepted}
-use Rattle.search.specs.Reply.{Query, asked, Reply, replyOf}
+use Rattle.reply.specs.Reply.{Query, asked, Reply, replyOf}
 use Rattle.panel.proofs.Answers.{found, answer-on-map, few-on-map}
 use Rattle.panel.proofs.on_map.Statement.{statement}
 use Rattle.panel.proofs.on_map.Tie as tie

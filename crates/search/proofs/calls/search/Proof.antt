@@ -2,7 +2,7 @@
 -- touched.
 use Rattle.common.proofs.Ground.{ap, sym, _∙_, needs}
 use Rattle.image.specs.Image.{outcomeOf}
-use Rattle.search.specs.Reply.{searched}
+use Rattle.reply.specs.Reply.{searched}
 use Rattle.search.proofs.calls.search.Statement.{statement}
 use Rattle.search.proofs.calls.search.Tie as tie
 

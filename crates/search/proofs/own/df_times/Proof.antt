@@ -1,6 +1,6 @@
 -- The reply and the times of the whole outcome that `df` promises.
 use Rattle.common.proofs.Ground.{ap, needs}
-use Rattle.search.specs.Reply.{Handed}
+use Rattle.reply.specs.Reply.{Handed}
 use Rattle.search.proofs.own.df_times.Statement.{statement}
 use Rattle.search.proofs.own.df_times.Tie as tie
 

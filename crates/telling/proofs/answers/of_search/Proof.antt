@@ -1,6 +1,6 @@
 -- Each case of the answer has its numbers by the definition.
 use Rattle.common.proofs.Ground.{ap, sym, _∙_, needs}
-use Rattle.search.specs.Reply.{replyOf}
+use Rattle.reply.specs.Reply.{replyOf}
 use Rattle.telling.specs.Numbers.{ofSearch}
 use Rattle.telling.proofs.answers.of_search.Statement.{statement}
 use Rattle.telling.proofs.answers.of_search.Tie as tie

@@ -12,13 +12,13 @@ use Rattle.image.specs.Image.{stationCount}
 use Rattle.engine.specs.declared.Ended.{Ended}
 use Rattle.engine.specs.declared.Ended.the-variants.{Over, BadPage}
 use Rattle.engine.specs.Ending.{Listed, EndedAs}
-use Rattle.search.specs.Reply.{Query, frameOf, pagesOf, Lent, lent, Reply, Handed, handed, written, ended, onMap}
+use Rattle.reply.specs.Reply.{Query, frameOf, pagesOf, Lent, lent, Reply, Handed, handed, written, ended, onMap}
 use Rattle.tables.specs.Finishing.{Shows, Finished}
 use Rattle.tables.proofs.Finishing.{shows-one}
-use Rattle.search.specs.Answering.{isOver, replyTo}
-use Rattle.search.proofs.Checking.{Admitted, long-enough}
-use Rattle.search.proofs.Searches.{found, size-of, sound-of, least-of}
-use Rattle.search.proofs.Written.{all-written}
+use Rattle.reply.specs.Answering.{isOver, replyTo}
+use Rattle.reply.proofs.Checking.{Admitted, long-enough}
+use Rattle.reply.proofs.Searches.{found, size-of, sound-of, least-of}
+use Rattle.reply.proofs.Written.{all-written}
 
 module _ (df : Bool) (q : Query) (t : Lent) (bytes : Bytes (q .image)) (a : Admitted q t)
     (times preds marks list cells : List ℕ) (r : ℕ) where

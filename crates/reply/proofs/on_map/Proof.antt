@@ -1,11 +1,11 @@
 -- The engine's search ends as the definition's does; its cells are written into the first N entries of the tables, and
 -- what is handed back is the definition's (`handed-over`, proofs/Ending.antt).
 use Rattle.common.proofs.Ground.{refl, sym, ℕ, _≤_, arith, length, length-take, length-take-le, now, needs}
-use Rattle.search.proofs.Checking.{admitted, long-enough}
-use Rattle.search.proofs.Searches.{size-of, few-stations}
-use Rattle.search.proofs.Ending.{handed-over}
-use Rattle.search.proofs.calls.on_map.Statement.{statement}
-use Rattle.search.proofs.calls.on_map.Tie as tie
+use Rattle.reply.proofs.Checking.{admitted, long-enough}
+use Rattle.reply.proofs.Searches.{size-of, few-stations}
+use Rattle.reply.proofs.Ending.{handed-over}
+use Rattle.reply.proofs.on_map.Statement.{statement}
+use Rattle.reply.proofs.on_map.Tie as tie
 
 search-requires : tie.Need-search-requires
 search-requires c κs =

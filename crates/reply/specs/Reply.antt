@@ -14,8 +14,8 @@ use Rattle.net.specs.Search.{State, Halt, going, reached}
 use Rattle.image.specs.Image.{Outcome, accepted, refused, nowhere, on-page, placeOf, stationCount, headingCheck}
 use Rattle.image.specs.Image.{afterHeading}
 use Rattle.map.specs.Map.{mapFrame, mapPage}
-use Rattle.search.specs.declared.Answer.{Answer}
-use Rattle.search.specs.declared.Answer.the-variants.{Accepted, Refused}
+use Rattle.reply.specs.declared.Answer.{Answer}
+use Rattle.reply.specs.declared.Answer.the-variants.{Accepted, Refused}
 
 -- "Each takes image, source"; C-11: "Searches take a length", that of a strip. What a search is asked; and the same of
 -- another image, or for another length.

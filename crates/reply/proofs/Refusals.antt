@@ -9,10 +9,10 @@ use Rattle.image.specs.Bytes.{Bytes}
 use Rattle.image.specs.Image.{Outcome, accepted, refused, stationCount, headingCheck, afterHeading}
 use Rattle.image.proofs.Heading.{heading-says}
 use Rattle.map.proofs.Offered.{bad-page}
-use Rattle.search.specs.Reply.{Query, frameOf, pagesOf, Lent, ended, tooShort, sixOrSeven, callCheck, onMap}
-use Rattle.search.specs.Reply.{afterCheck, searched}
-use Rattle.search.proofs.Checking.{Admitted, Decided, turned-down, passed, decided}
-use Rattle.search.proofs.Searches.{found, refused-of}
+use Rattle.reply.specs.Reply.{Query, frameOf, pagesOf, Lent, ended, tooShort, sixOrSeven, callCheck, onMap}
+use Rattle.reply.specs.Reply.{afterCheck, searched}
+use Rattle.reply.proofs.Checking.{Admitted, Decided, turned-down, passed, decided}
+use Rattle.reply.proofs.Searches.{found, refused-of}
 
 module _ (q : Query) (t : Lent) where
   abbrev n : ℕ

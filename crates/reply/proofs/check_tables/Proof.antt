@@ -1,7 +1,7 @@
 -- 6 and 7 are tested in this order, as the definition has them.
 use Rattle.common.proofs.Ground.{_∙_, needs, le-leb, lt-leb}
-use Rattle.search.proofs.calls.check_tables.Statement.{statement}
-use Rattle.search.proofs.calls.check_tables.Tie as tie
+use Rattle.reply.proofs.check_tables.Statement.{statement}
+use Rattle.reply.proofs.check_tables.Tie as tie
 
 returns : tie.Need-returns
 returns c = c .refuse .ensures ∙ rw (le-leb _ _ (c .before .if1 .taken))

@@ -6,7 +6,7 @@ use Rattle.image.specs.Image.{accepted, refused, on-page}
 use Rattle.reference.specs.declared.Query as reference
 use Rattle.engine.specs.declared.Ended.{Ended}
 use Rattle.engine.specs.declared.Ended.the-variants.{Over, BadPage}
-use Rattle.search.specs.Reply.{Query, asked, Reply, reply}
+use Rattle.reply.specs.Reply.{Query, asked, Reply, reply}
 
 -- What the code's query asks of an image; the flag, which search it is, is not part of it.
 abbrev pub askedBy : reference.Query → List ℕ → Query

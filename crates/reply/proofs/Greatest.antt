@@ -4,7 +4,7 @@ use Rattle.common.specs.Numbers.{noTime}
 use Rattle.net.specs.Demands.{Spells, at-source, step, LeastTimes}
 use Rattle.image.specs.Bytes.{Bytes}
 use Rattle.map.proofs.Soundness.{goes-within}
-use Rattle.search.specs.Reply.{Query, frameOf, pagesOf}
+use Rattle.reply.specs.Reply.{Query, frameOf, pagesOf}
 
 -- Each move costs 65,535 at most, and so many moves at most so many times that.
 module _ (q : Query) (bytes : Bytes (q .image)) where

@@ -1,7 +1,7 @@
 -- The tests in order: the first that is met decides, and the last comparison is the last test.
 use Rattle.common.proofs.Ground.{lt-ltb, le-ltb}
-use Rattle.search.proofs.calls.too_short.Statement.{statement}
-use Rattle.search.proofs.calls.too_short.Tie as tie
+use Rattle.reply.proofs.too_short.Statement.{statement}
+use Rattle.reply.proofs.too_short.Tie as tie
 
 returns : tie.Need-returns
 returns c = rw (lt-ltb _ _ (c .if1 .taken))

@@ -5,8 +5,8 @@ use Rattle.net.specs.Net.{Frame}
 use Rattle.net.specs.Search as net
 use Rattle.net.specs.Search.{State, Halt, going}
 use Rattle.image.specs.Image.{Outcome, accepted, refused, stationCount}
-use Rattle.search.specs.Reply.{Query, frameOf, pagesOf, NetSearch, Lent, ended, tooShort, callCheck}
-use Rattle.search.specs.Reply.{onMap, afterCheck, searched}
+use Rattle.reply.specs.Reply.{Query, frameOf, pagesOf, NetSearch, Lent, ended, tooShort, callCheck}
+use Rattle.reply.specs.Reply.{onMap, afterCheck, searched}
 
 module _ (search : NetSearch) (q : Query) (t other : Lent) where
   ended-alike : (h : Halt) (F : Frame) (s : State) → (ended h F s t) .reply ≡ (ended h F s other) .reply

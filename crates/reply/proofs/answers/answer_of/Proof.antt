@@ -1,8 +1,8 @@
 -- In each arm the ending is known, and the answer is its reply.
 use Rattle.common.proofs.Ground.{sym, ap, needs}
-use Rattle.search.specs.Answering.{replyTo}
-use Rattle.search.proofs.answers.answer_of.Statement.{statement}
-use Rattle.search.proofs.answers.answer_of.Tie as tie
+use Rattle.reply.specs.Answering.{replyTo}
+use Rattle.reply.proofs.answers.answer_of.Statement.{statement}
+use Rattle.reply.proofs.answers.answer_of.Tie as tie
 
 returns : tie.Need-returns
 returns c =

@@ -1,8 +1,8 @@
 // What a search answers, by how the engine's search ended.
 
 ghost use mathlib.Core.Path.{_≡_};
-ghost use Rattle.search.specs.Reply.{replyOf};
-ghost use Rattle.search.specs.Answering.{isOver, replyTo};
+ghost use Rattle.reply.specs.Reply.{replyOf};
+ghost use Rattle.reply.specs.Answering.{isOver, replyTo};
 use super::Answer;
 use engine::Ended;
 use image::Place;

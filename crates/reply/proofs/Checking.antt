@@ -6,7 +6,7 @@ use Rattle.common.proofs.Cases.{never}
 use Rattle.image.specs.Image.{Outcome, accepted, refused, Place, nowhere, at-station, on-page}
 use Rattle.image.specs.Image.{stationCount, headingCheck, afterHeading}
 use Rattle.image.proofs.Heading.{heading-says}
-use Rattle.search.specs.Reply.{Query, Lent, tooShort, callCheck}
+use Rattle.reply.specs.Reply.{Query, Lent, tooShort, callCheck}
 
 -- An outcome that names no page.
 abbrev pub NamesNoPage : Outcome → Type 0

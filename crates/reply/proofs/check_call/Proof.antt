@@ -1,8 +1,8 @@
 -- The heading's check decides: passed, 6 and 7 follow; refused by 1 to 5, that refusal is the call's.
 use Rattle.common.proofs.Ground.{_∙_, needs}
-use Rattle.search.specs.Reply.{callCheck}
-use Rattle.search.proofs.calls.check_call.Statement.{statement}
-use Rattle.search.proofs.calls.check_call.Tie as tie
+use Rattle.reply.specs.Reply.{callCheck}
+use Rattle.reply.proofs.check_call.Statement.{statement}
+use Rattle.reply.proofs.check_call.Tie as tie
 
 returns : tie.Need-returns
 unfolding callCheck

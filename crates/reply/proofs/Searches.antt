@@ -11,8 +11,8 @@ use Rattle.image.specs.Bytes.{Bytes}
 use Rattle.image.specs.Image.{stationCount}
 use Rattle.image.proofs.Heading.{formed}
 use Rattle.map.proofs.Soundness.{image-sound}
-use Rattle.search.specs.Reply.{Query, frameOf, pagesOf, Lent}
-use Rattle.search.proofs.Checking.{Admitted}
+use Rattle.reply.specs.Reply.{Query, frameOf, pagesOf, Lent}
+use Rattle.reply.proofs.Checking.{Admitted}
 
 pub local-of : (df : Bool) (F : Frame) (page other : ℕ → Page) (source : ℕ)
     → AgreeOn ((searchOf df F page source) .pages) page other → searchOf df F page source ≡ searchOf df F other source
