@@ -9,6 +9,7 @@ use Rattle.common.specs.Pick.{pick}
 use Rattle.layout.specs.Rows.{entryOf, beginOf, endOf, Laid}
 use Rattle.layout.proofs.Rows.{between-kept, between-more, begin-kept, end-kept, laid-kept, laid-end, laid-new}
 use Rattle.commands.specs.declared.Move.{Move}
+use Rattle.rows.proofs.Behind.{next-bounds}
 use Rattle.page.specs.Open.{isOpen, openTo}
 use Rattle.page.specs.Laying.{rowFor, OthersKept}
 use Rattle.page.proofs.Open.{open-append}
@@ -40,11 +41,6 @@ row-for-more strip read m {test} e =
     by-test : (test : Bool) → entries (pick test (m ∷ []) []) ≡ pick test (entryOf (m .time) (m .target) ∷ []) []
     by-test true = refl
     by-test false = refl
-
--- Behind a move: one entry further if it is open, and none if it is closed.
-pub next-bounds : (k : ℕ) (test : Bool) → (k ≤ pick test (k + 1) k) × (pick test (k + 1) k ≤ k + 1)
-next-bounds k true = omega arith
-next-bounds k false = omega arith
 
 -- The two writes: one at entry i, and one at the end of the row of station v.
 abbrev pub written : List ℕ → ℕ → ℕ → ℕ → ℕ → List ℕ

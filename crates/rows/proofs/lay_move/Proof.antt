@@ -1,7 +1,7 @@
 -- The entry written is that of the move.
 use Rattle.common.proofs.Ground.{refl, needs}
-use Rattle.page.proofs.reader.lay_move.Statement.{statement}
-use Rattle.page.proofs.reader.lay_move.Tie as tie
+use Rattle.rows.proofs.lay_move.Statement.{statement}
+use Rattle.rows.proofs.lay_move.Tie as tie
 
 returns : tie.Need-returns
 returns c = rw (c .entry-of .ensures) (refl, refl)

@@ -1,8 +1,8 @@
 -- The entry written is that of the move. What lies behind it is one entry further at most, and is where the row ends.
 use Rattle.common.proofs.Ground.{refl, arith, leb, needs}
-use Rattle.page.proofs.Reading.Laying.{next-bounds}
-use Rattle.page.proofs.reader.lay_limited.Statement.{statement}
-use Rattle.page.proofs.reader.lay_limited.Tie as tie
+use Rattle.rows.proofs.Behind.{next-bounds}
+use Rattle.rows.proofs.lay_limited.Statement.{statement}
+use Rattle.rows.proofs.lay_limited.Tie as tie
 
 cast-layout : tie.Need-cast-layout
 cast-layout c =

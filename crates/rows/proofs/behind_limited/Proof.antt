@@ -1,7 +1,7 @@
 -- By the comparison.
 use Rattle.common.proofs.Ground.{arith, needs, le-leb, lt-leb}
-use Rattle.page.proofs.reader.behind_limited.Statement.{statement}
-use Rattle.page.proofs.reader.behind_limited.Tie as tie
+use Rattle.rows.proofs.behind_limited.Statement.{statement}
+use Rattle.rows.proofs.behind_limited.Tie as tie
 
 returns : tie.Need-returns
 returns c =
