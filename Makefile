@@ -23,7 +23,8 @@ cases: layers
 
 # What would look at page bytes, by the names that the sources use: a slice under another name escapes this.
 LOOKS := \b(page|image)\[|(byte_at|word_at|part_of|command_at)\((page|image)\b
-SEE_NO_BYTES := layout queue relax rows page whole work reference engine tables search panel line coil telling yard
+SEE_NO_BYTES := layout queue cells relax rows page whole work reference engine tables reply \
+    search panel line coil telling yard
 
 # Looks in the crates that are to see no page bytes for an index of, or a byte read from, a slice called page or image.
 layers:

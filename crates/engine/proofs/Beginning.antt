@@ -13,8 +13,8 @@ use Rattle.image.specs.Image.{directoryOf, headingCheck, accepted}
 use Rattle.image.proofs.Heading.{formed}
 use Rattle.image.proofs.Parts.{bytes-directory}
 use Rattle.queue.proofs.Groups.{least-empty, empty-groups}
-use Rattle.relax.specs.Cells.{Memory, memory, Room, Relaxed, noCost, PlacedAt}
-use Rattle.relax.proofs.Rows.{relaxed-room, relaxed-cell, relaxed-other, relaxed-waits, relaxed-waits-other}
+use Rattle.cells.specs.Cells.{Memory, memory, Room, Relaxed, noCost, PlacedAt}
+use Rattle.cells.proofs.Relaxed.{relaxed-room, relaxed-cell, relaxed-other, relaxed-waits, relaxed-waits-other}
 use Rattle.reference.specs.declared.Query.{Query}
 use Rattle.work.specs.Board.{Serving, frameOf, Placing, StationIs}
 use Rattle.work.specs.Hand.{Stands}

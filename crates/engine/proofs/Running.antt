@@ -9,7 +9,7 @@ use Rattle.net.specs.Search.{start, iter}
 use Rattle.net.specs.Run.{searchOf, unmarked, firstWaiting}
 use Rattle.net.proofs.Steps.Waiting.{nobody-refused}
 use Rattle.net.proofs.Runs.{run-is-search, run-stops}
-use Rattle.relax.specs.Cells.{Memory}
+use Rattle.cells.specs.Cells.{Memory}
 use Rattle.reference.specs.declared.Query.{Query}
 use Rattle.reference.specs.declared.Reference.the-variants.{NobodyWaits, Made, Bad}
 use Rattle.engine.specs.declared.Ended.the-variants.{Over, BadPage}

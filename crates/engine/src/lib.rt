@@ -8,9 +8,10 @@ ghost use Prim.Native.Nat.{_≤_, _<_};
 ghost use lib.ListN.{length, replicate};
 ghost use Rattle.common.specs.Numbers.{nobody};
 ghost use Rattle.image.specs.Image.{directoryOf, headingCheck, accepted};
-ghost use Rattle.relax.specs.Cells.{memory};
+ghost use Rattle.cells.specs.Cells.{memory};
 ghost use Rattle.reference.specs.Standing.{Underway};
 ghost use Rattle.engine.specs.Ending.{EndedOn};
+use cells::offer;
 use common::NOBODY;
 use image::directory_of;
 use layout::moves::LAYOUT;
@@ -21,7 +22,6 @@ use queue::QUEUE;
 use reference::Query;
 use reference::Reference;
 use reference::refer;
-use relax::offer;
 
 // How a search ended: with nobody left to wait, or by a bad page; and the number of references made.
 pub enum Ended {

@@ -17,7 +17,7 @@ use Rattle.layout.specs.Places.{pageAt}
 use Rattle.layout.specs.Rows.{entryOf}
 use Rattle.queue.specs.Keys.{leastIn}
 use Rattle.queue.specs.Queue.{leavesOf}
-use Rattle.relax.specs.Cells.{Memory}
+use Rattle.cells.specs.Cells.{Memory}
 use Rattle.reference.specs.declared.Query.{Query}
 use Rattle.work.specs.Board.{leastOn, chosen, Serving, frameOf}
 use Rattle.map.specs.Map.{mapFrame, netMove, offered, mapPage}

@@ -14,7 +14,7 @@ use Rattle.image.specs.Image.{directoryOf, pageCount, headingCheck, accepted}
 use Rattle.page.specs.Reading.{Leaving, good, bad, readingOf}
 use Rattle.page.specs.Laying.{PageLaid}
 use Rattle.layout.specs.Rows.{endOf}
-use Rattle.relax.specs.Cells.{Memory}
+use Rattle.cells.specs.Cells.{Memory}
 use Rattle.reference.specs.declared.Query.{Query}
 use Rattle.reference.specs.declared.Reference.{Reference}
 use Rattle.reference.specs.declared.Reference.the-variants.{NobodyWaits, Made}

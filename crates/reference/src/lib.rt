@@ -3,7 +3,7 @@
 
 ghost use mathlib.Core.Path.{_≡_};
 ghost use Rattle.image.specs.Image.{headingCheck, accepted};
-ghost use Rattle.relax.specs.Cells.{memory};
+ghost use Rattle.cells.specs.Cells.{memory};
 ghost use Rattle.net.specs.Run.{turnLimit};
 ghost use Rattle.map.specs.Map.{mapFrame};
 ghost use Rattle.reference.specs.Standing.{Underway, Referred};

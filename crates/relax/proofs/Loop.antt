@@ -2,8 +2,9 @@
 -- now, all of them lead to from the memory as it was at first.
 use Rattle.common.proofs.Ground.{_≡_, List, [], _∷_, ℕ, suc, _+_, _-_, _/_, _%_, _<_, _≤_, arith, add-one, length, getD}
 use Rattle.common.proofs.Ground.{drop-cons}
-use Rattle.relax.specs.Cells.{Memory, Relaxed, Relaxing, none, more, Room, PlacedAt, Targets, rowsBetween}
-use Rattle.relax.proofs.Rows.{relaxed-room}
+use Rattle.cells.specs.Cells.{Memory, Relaxed, Room, PlacedAt}
+use Rattle.relax.specs.Visits.{Relaxing, none, more, Targets, rowsBetween}
+use Rattle.cells.proofs.Relaxed.{relaxed-room}
 
 -- The first of some rows, and none where they have ended.
 rows-first : (layout : List ℕ) (i hi : ℕ) → i < hi → hi ≤ length layout →

@@ -16,9 +16,10 @@ use Rattle.layout.proofs.Slots.{slot-below, slot-on-page, same-slot}
 use Rattle.queue.specs.Keys.{packed}
 use Rattle.queue.specs.Queue.{Put}
 use Rattle.queue.proofs.Least.{least-before, least-behind, least-lowered}
-use Rattle.relax.specs.Cells.{Memory, memory, Relaxed, withoutWaiting, PlacedAt}
-use Rattle.relax.proofs.Rows.{relaxed-room, relaxed-cell, relaxed-other, relaxed-waits, relaxed-waits-other}
-use Rattle.relax.proofs.Rows.{room-waiting}
+use Rattle.cells.specs.Cells.{Memory, memory, Relaxed, PlacedAt}
+use Rattle.relax.specs.Visits.{withoutWaiting}
+use Rattle.cells.proofs.Relaxed.{relaxed-room, relaxed-cell, relaxed-other, relaxed-waits, relaxed-waits-other}
+use Rattle.cells.proofs.Relaxed.{room-waiting}
 use Rattle.work.specs.Board.{CellIs, keyIf, leastOn, Serving, frameOf, Placing, Leaves, Board}
 
 -- One station's cell, and the cost and predecessor that a move from u offers it.

@@ -15,7 +15,7 @@ use Rattle.layout.specs.Places.{firstSlot, slotOf}
 use Rattle.queue.specs.Keys.{packed, leastIn}
 use Rattle.queue.specs.Queue.{leavesOf}
 use Rattle.queue.proofs.Least.{least-at-most, least-found}
-use Rattle.relax.specs.Cells.{Memory}
+use Rattle.cells.specs.Cells.{Memory}
 use Rattle.work.specs.Board.{keyIf, leastOn, chosen, Serving, frameOf, Board}
 use Rattle.work.proofs.Board.{page-end}
 

@@ -17,8 +17,8 @@ use Rattle.layout.specs.Places.{firstSlot, slotOf, Placed}
 use Rattle.layout.specs.Rows.{entryOf, rowOf, Laid}
 use Rattle.queue.specs.Keys.{leastIn}
 use Rattle.queue.specs.Queue.{Put}
-use Rattle.relax.specs.Cells.{Memory, memory, Room, Relaxed, Relaxing, none, more, withoutWaiting, Visited, LaidOut}
-use Rattle.relax.specs.Cells.{Targets, longest, noCost, PlacedAt}
+use Rattle.cells.specs.Cells.{Memory, memory, Room, Relaxed, noCost, PlacedAt}
+use Rattle.relax.specs.Visits.{Relaxing, none, more, withoutWaiting, Visited, LaidOut, Targets, longest}
 use Rattle.work.specs.Board.{leastOn, chosen, Serving, frameOf, Board}
 use Rattle.work.specs.Hand.{stateAfter, Stands, rowsOf, Hand}
 use Rattle.work.proofs.Board.{placed-at, relaxed-board, stopped-board, left-board}

@@ -16,7 +16,7 @@ use Rattle.net.specs.Run.{waits}
 use Rattle.net.proofs.Sound.{Sound}
 use Rattle.layout.specs.Places.{firstSlot, slotOf, Placed}
 use Rattle.queue.specs.Keys.{packed, leastFrom}
-use Rattle.relax.specs.Cells.{Memory, Room}
+use Rattle.cells.specs.Cells.{Memory, Room}
 
 -- The cell of station v: the source's is 0, nobody's where v has no time, and otherwise time and predecessor.
 pub record CellIs (source v time pred cell : ℕ) : Type 0 where

@@ -7,7 +7,7 @@ use Rattle.net.specs.Net.{Move}
 use Rattle.net.specs.Search.{State, going}
 use Rattle.net.specs.Run.{turnLimit, afterReferences, InHand}
 use Rattle.layout.specs.Rows.{entryOf, Laid}
-use Rattle.relax.specs.Cells.{Memory}
+use Rattle.cells.specs.Cells.{Memory}
 use Rattle.work.specs.Board.{Serving, frameOf, leastOn, Board}
 
 -- The state of a search after k references.

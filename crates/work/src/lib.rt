@@ -4,7 +4,7 @@
 ghost use mathlib.Core.Path.{_≡_};
 ghost use Prim.Native.Nat.{_%_, _<_};
 ghost use Rattle.common.specs.Numbers.{nobody};
-ghost use Rattle.relax.specs.Cells.{memory};
+ghost use Rattle.cells.specs.Cells.{memory};
 ghost use Rattle.work.specs.Hand.{Working, Worked};
 use common::NOBODY;
 use layout::places::first_slot;

@@ -3,7 +3,7 @@
 -- references than there are stations. The tables keep their lengths.
 use Rattle.common.proofs.Ground.{_≡_, subst, _-_, arith, length, now, needs}
 use Rattle.image.specs.Image.{directoryOf}
-use Rattle.relax.specs.Cells.{memory}
+use Rattle.cells.specs.Cells.{memory}
 use Rattle.reference.specs.declared.Reference.{Reference}
 use Rattle.reference.specs.Standing.{Referred}
 use Rattle.engine.proofs.Running.{RunSoFar, run-start, run-more, nobody-ends, bad-ends}

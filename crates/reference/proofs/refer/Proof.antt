@@ -6,7 +6,7 @@ use Rattle.page.specs.declared.Verdict.the-variants.{Good}
 use Rattle.image.specs.Image.{pageCount}
 use Rattle.queue.specs.Keys.{leastIn}
 use Rattle.queue.specs.Queue.{leavesOf}
-use Rattle.relax.specs.Cells.{Memory, memory}
+use Rattle.cells.specs.Cells.{Memory, memory}
 use Rattle.work.specs.Board.{Serving}
 use Rattle.work.specs.Hand.{Hand}
 use Rattle.reference.specs.Standing.{serving, Fetched}

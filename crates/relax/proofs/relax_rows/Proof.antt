@@ -1,6 +1,6 @@
 -- The loop's invariant: the rows up to i are relaxed (`Going`).
 use Rattle.common.proofs.Ground.{_-_, _<_, arith, getD, now, needs}
-use Rattle.relax.specs.Cells.{memory}
+use Rattle.cells.specs.Cells.{memory}
 use Rattle.relax.proofs.Loop.{Going, going-start, going-target, going-more, going-end}
 use Rattle.relax.proofs.relax_rows.Statement.{statement}
 use Rattle.relax.proofs.relax_rows.Tie as tie

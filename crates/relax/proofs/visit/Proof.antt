@@ -1,6 +1,6 @@
 -- The memory handed to `relax_moves` is the one in which u no longer waits.
 use Rattle.common.proofs.Ground.{_∙_, length-set, needs}
-use Rattle.relax.proofs.Rows.{room-waiting}
+use Rattle.cells.proofs.Relaxed.{room-waiting}
 use Rattle.relax.proofs.visit.Statement.{statement}
 use Rattle.relax.proofs.visit.Tie as tie
 

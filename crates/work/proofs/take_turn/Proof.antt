@@ -2,7 +2,7 @@
 -- are relaxed: with that the page's only turn is made, and the page is left (proofs/Turning.antt).
 use Rattle.common.proofs.Ground.{_∙_, _+_, arith, length-set, now, needs}
 use Rattle.common.specs.Numbers.{nobody}
-use Rattle.relax.specs.Cells.{Memory, memory}
+use Rattle.cells.specs.Cells.{Memory, memory}
 use Rattle.work.proofs.Turning.{place, LeafSet, leaf-put, last-asks, last-turn}
 use Rattle.work.proofs.take_turn.Statement.{statement}
 use Rattle.work.proofs.take_turn.Tie as tie

@@ -3,7 +3,7 @@
 -- gets the least key, which is the state after one reference more (proofs/Turning.antt).
 use Rattle.common.proofs.Ground.{_≡_, inl, inr, ⊎-elim, ℕ, _+_, _≤_, _<_, arith, length, needs, ltb-true, ltb-false}
 use Rattle.common.specs.Numbers.{nobody}
-use Rattle.relax.specs.Cells.{memory}
+use Rattle.cells.specs.Cells.{memory}
 use Rattle.work.specs.Board.{Serving}
 use Rattle.work.specs.Hand.{Hand}
 use Rattle.work.proofs.Turning.{turn-asks, turned, over}

@@ -1,7 +1,7 @@
 -- Each table is written once, and the callees' promises say what.
 use Rattle.common.proofs.Ground.{ap, set, now, needs}
-use Rattle.relax.proofs.relax_cell.Statement.{statement}
-use Rattle.relax.proofs.relax_cell.Tie as tie
+use Rattle.cells.proofs.relax_cell.Statement.{statement}
+use Rattle.cells.proofs.relax_cell.Tie as tie
 
 returns : tie.Need-returns
 returns c =

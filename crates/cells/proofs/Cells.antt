@@ -6,7 +6,7 @@ use Rattle.common.specs.Pick.{pick}
 use Rattle.queue.specs.Keys.{packed}
 use Rattle.queue.specs.Queue.{Put}
 use Rattle.layout.specs.Places.{slotOf, pageAt}
-use Rattle.relax.specs.Cells.{memory, noCost, loweredKey, Relaxed}
+use Rattle.cells.specs.Cells.{memory, noCost, loweredKey, Relaxed}
 
 -- A cell that has a cost, as document 01 has it: less cost, or equal cost and lower predecessor.
 pub cell-rule : (cost pred sum u : ℕ) → pred < 2048 → u < 2048 → min (packed cost pred) (packed sum u)

@@ -1,8 +1,8 @@
 -- What the cell's function and the leaf's promise, of the key that one hands to the other (`relaxed-by`).
-use Rattle.relax.proofs.Cells.{relaxed-by}
+use Rattle.cells.proofs.Cells.{relaxed-by}
 use Rattle.common.proofs.Ground.{needs}
-use Rattle.relax.proofs.offer.Statement.{statement}
-use Rattle.relax.proofs.offer.Tie as tie
+use Rattle.cells.proofs.offer.Statement.{statement}
+use Rattle.cells.proofs.offer.Tie as tie
 
 returns : tie.Need-returns
 returns c =

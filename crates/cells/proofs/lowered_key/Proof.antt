@@ -1,7 +1,7 @@
 -- The two ways are the cases of the definition.
 use Rattle.common.proofs.Ground.{_/_, arith, needs, lt-ltb, le-ltb}
-use Rattle.relax.proofs.lowered_key.Statement.{statement}
-use Rattle.relax.proofs.lowered_key.Tie as tie
+use Rattle.cells.proofs.lowered_key.Statement.{statement}
+use Rattle.cells.proofs.lowered_key.Tie as tie
 
 returns : tie.Need-returns
 returns c =

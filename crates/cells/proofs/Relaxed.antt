@@ -3,7 +3,7 @@ use Rattle.common.proofs.Ground.{_≡_, _∙_, _≢_, List, ℕ, _<_, min, arit
 use Rattle.common.proofs.Ground.{getD-set-other}
 use Rattle.queue.specs.Keys.{packed}
 use Rattle.layout.specs.Places.{slotOf}
-use Rattle.relax.specs.Cells.{Memory, memory, loweredKey, Relaxed, Room, PlacedAt}
+use Rattle.cells.specs.Cells.{Memory, memory, loweredKey, Relaxed, Room, PlacedAt}
 
 module _ {places : List ℕ} {u : ℕ} where
   -- A relaxed move keeps every table's room and the queue in order.
