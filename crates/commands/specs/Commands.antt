@@ -9,7 +9,7 @@ use Rattle.commands.specs.declared.Move.{Move}
 use Rattle.commands.specs.declared.Command.{Command}
 use Rattle.commands.specs.declared.Command.the-variants.{End, Station, MoveTo, Limited, Fault}
 
--- "The lengths 1, 3, 5 stand in a constant table"; C-11: 7 bytes for `03`.
+-- "`00` .. (1 byte)", "`01` .. (3 bytes)", "`02` .. (5 bytes)"; C-11: `03` with a third u16, so 7 bytes.
 abbrev pub lengthOf : ℕ → ℕ
 lengthOf code = getD (1 ∷ 3 ∷ 5 ∷ 7 ∷ []) code 0
 
