@@ -6,12 +6,6 @@
 // Kind 2 then gives each byte of the image all 256 values in turn, and prints the whole check's answers, a line for
 // each offset.
 
-mod answers;
-mod runs;
-
-use answers::of_image;
-use answers::of_page;
-use answers::print;
 use image::Checked;
 use image::bytes::byte_at;
 use image::bytes::word_at;
@@ -22,9 +16,12 @@ use layout::places::PLACES;
 use layout::places::place;
 use libc::STDIN_FILENO;
 use libc::STDOUT_FILENO;
-use runs::begun;
-use runs::ended;
-use runs::extended;
+use readings_io::answers::of_image;
+use readings_io::answers::of_page;
+use readings_io::answers::print;
+use readings_io::runs::begun;
+use readings_io::runs::ended;
+use readings_io::runs::extended;
 ghost use Rattle.layout.specs.Places.{Placed};
 
 // Prints the page reader's answers for the pages up to the last one.

@@ -1,10 +1,10 @@
--- `search_test::run_search` is safe and ends. The part that is lent of each table has as many entries as `within`
+-- `searches_io::run_search` is safe and ends. The part that is lent of each table has as many entries as `within`
 -- answers.
 use borrow.Author.Needs.{needs}
 use mathlib.Core.Path.{sym}
 use lib.Seq.{length-take-le}
-use Rattle.search_test.proofs.run_search.Statement.{statement}
-use Rattle.search_test.proofs.run_search.Tie as tie
+use Rattle.searches_io.proofs.run_search.Statement.{statement}
+use Rattle.searches_io.proofs.run_search.Tie as tie
 
 pub run-search-spec : {M : Type 1} → statement M
 run-search-spec =

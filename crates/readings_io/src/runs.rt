@@ -23,7 +23,7 @@ pub fn begun(at: u8, answer: Answer) -> Run {
 }
 
 // Prints a run, as `7 good` or `0-6 good`.
-pub fn print_run(run: Run) {
+fn print_run(run: Run) {
     io::print_decimal(STDOUT_FILENO, run.from as u64);
     if run.from != run.to {
         io::write_all(STDOUT_FILENO, b"-");

@@ -1,9 +1,9 @@
--- `search_test::tables::print_bytes` is safe and ends. The part that is printed has as many entries as `within` answers.
+-- `tables_io::print_bytes` is safe and ends. The part that is printed has as many entries as `within` answers.
 use borrow.Author.Needs.{needs}
 use mathlib.Core.Path.{sym}
 use lib.Seq.{length-take-le}
-use Rattle.search_test.proofs.tables.print_bytes.Statement.{statement}
-use Rattle.search_test.proofs.tables.print_bytes.Tie as tie
+use Rattle.tables_io.proofs.print_bytes.Statement.{statement}
+use Rattle.tables_io.proofs.print_bytes.Tie as tie
 
 pub print-bytes-spec : {M : Type 1} → statement M
 print-bytes-spec =

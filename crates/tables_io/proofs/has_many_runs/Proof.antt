@@ -1,9 +1,9 @@
--- `search_test::tables::has_many_runs` is safe and ends. The measure is the number of entries that are left.
+-- `tables_io::has_many_runs` is safe and ends. The measure is the number of entries that are left.
 use borrow.Author.Needs.{needs}
 use Prim.Native.Nat.{_-_}
 use lib.ListN.{length}
-use Rattle.search_test.proofs.tables.has_many_runs.Statement.{statement}
-use Rattle.search_test.proofs.tables.has_many_runs.Tie as tie
+use Rattle.tables_io.proofs.has_many_runs.Statement.{statement}
+use Rattle.tables_io.proofs.has_many_runs.Tie as tie
 
 abbrev Inv-loop : tie.InvT-loop
 Inv-loop table left₀ i₀ left i = Unit {0}

@@ -1,9 +1,9 @@
--- `search_test::tables::print_digest` is safe and ends. The measure is the number of entries that are left.
+-- `tables_io::print_digest` is safe and ends. The measure is the number of entries that are left.
 use borrow.Author.Needs.{needs}
 use Prim.Native.Nat.{_-_}
 use lib.ListN.{length}
-use Rattle.search_test.proofs.tables.print_digest.Statement.{statement}
-use Rattle.search_test.proofs.tables.print_digest.Tie as tie
+use Rattle.tables_io.proofs.print_digest.Statement.{statement}
+use Rattle.tables_io.proofs.print_digest.Tie as tie
 
 abbrev Inv-loop : tie.InvT-loop
 Inv-loop table digest₀ i₀ t4 t5 digest i = Unit {0}
