@@ -2,8 +2,8 @@
 use Rattle.common.proofs.Ground.{_≡_, List, ℕ}
 use Rattle.net.specs.Search.{dfSearch}
 use Rattle.reply.specs.Reply.{asked, blank, Reply, searched}
-use Rattle.line.specs.Line.{coilOf, lengthOf, stationOf, lineOf}
-use Rattle.coil.specs.Program.{recordLine}
+use Rattle.line.specs.Line.{coilOf, lengthOf, stationOf}
+use Rattle.coil.specs.Program.{lineOf, recordLine}
 
 pub line-of-record : (image bytes : List ℕ) {coil length station : ℕ} {reply : Reply} → coil ≡ coilOf bytes
     → length ≡ lengthOf bytes → station ≡ stationOf bytes

@@ -10,9 +10,10 @@ use lib.Dec.{leb, eqb}
 use Rattle.common.specs.Pick.{pick}
 use Rattle.common.specs.Window.{placed}
 use Rattle.net.specs.Search.{dfSearch}
-use Rattle.reply.specs.Reply.{asked, blank, searched}
+use Rattle.image.specs.Image.{Outcome, accepted, refused}
+use Rattle.reply.specs.Reply.{Reply, asked, blank, searched}
 use Rattle.text.specs.Text.{ascii}
-use Rattle.line.specs.Line.{coilOf, lengthOf, stationOf, lineOf}
+use Rattle.line.specs.Line.{coilOf, lengthOf, stationOf, acceptedLine, refusalLine}
 
 -- "reads `yard.map` (a file that can't be opened is empty; past 63,492 bytes it counts as 63,493 long)". So long a
 -- map is refused by 4, or by what comes before it, whatever its bytes; a file that can't be opened is given as the
@@ -23,6 +24,15 @@ mapOf file = take 63493 file
 -- "8-byte records on standard input": a record is there if the input has so many bytes.
 abbrev pub hasRecord : List ℕ → Bool
 hasRecord input = leb 8 (length input)
+
+-- The line by the reply to a record's search.
+abbrev pub lineBy : Outcome → ℕ → List ℕ → List ℕ
+lineBy accepted coil line = line
+lineBy (refused number place) coil line = refusalLine coil number
+
+abbrev pub lineOf : ℕ → ℕ → ℕ → Reply → List ℕ
+lineOf coil length station r =
+    lineBy (r .outcome) coil (acceptedLine coil length station (r .count) (r .reached))
 
 -- "Each record in turn gives the source of a DF search and one line". C-11: "the rule that length has no bearing on the
 -- way is withdrawn", and "Searches take a length": the record's.

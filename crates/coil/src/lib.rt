@@ -7,8 +7,11 @@ ghost use lib.ListN.{length};
 ghost use Rattle.common.specs.Window.{placed};
 ghost use Rattle.net.specs.Search.{dfSearch};
 ghost use Rattle.reply.specs.Reply.{asked, blank, replyOf, searched};
-ghost use Rattle.coil.specs.Program.{recordLine};
-use line::lines::put_line;
+ghost use Rattle.line.specs.Writing.{lineRoom, Fronted};
+ghost use Rattle.coil.specs.Program.{lineOf, recordLine};
+use line::lines::put_accepted;
+use line::lines::put_refusal;
+use line::records::Record;
 use line::records::record_of;
 use reply::Answer;
 use search::own::TABLE;
@@ -26,6 +29,20 @@ fn search_from(image: &[u8], station: u16, strip: u16) -> Answer
 {
     let mut times = [0u32; TABLE];
     df_times(image, station, strip, &mut times)
+}
+
+// The line of a record whose search answered so.
+fn put_line(line: &mut [u8], parts: Record, answer: Answer) -> usize
+    requires room { ⌜ lineRoom ≤ length (now line) ⌝ }
+    ensures put { λ r. ⌜
+        Fronted (lineOf (parts .coil) (parts .length) (parts .station) (replyOf answer))
+        (now (line .entry)) (now (line .exit)) r ⌝ }
+    ensures within { λ r. ⌜ r ≤ lineRoom ⌝ }
+{
+    match answer {
+        Answer::Accepted { count, reached } => put_accepted(line, parts, count, reached),
+        Answer::Refused { refusal, count: _ } => put_refusal(line, parts.coil, refusal.number),
+    }
 }
 
 // Puts the record's line at the front of the buffer, and answers how many bytes it has; the bytes behind it are kept.

@@ -1,11 +1,9 @@
--- A coil record's numbers, and the line that the program `coils` prints by them and by the reply to its search (01,
--- "Route, whole check, program"), as a list of bytes. Which search that is: coil/specs/Program.antt, `recordLine`.
+-- A coil record's numbers, and the lines that the program `coils` prints by them (01, "Route, whole check, program"),
+-- as lists of bytes. Which of the two, and by which search: coil/specs/Program.antt, `lineOf` and `recordLine`.
 use mathlib.Core.List.{List, _++_}
 use Prim.Native.Nat.{ℕ, _+_, _*_}
 use Rattle.image.specs.Bytes.{word}
-use Rattle.image.specs.Image.{Outcome, accepted, refused}
 use Rattle.text.specs.Text.{ascii, named}
-use Rattle.reply.specs.Reply.{Reply}
 
 -- "Whole numbers are little-endian": the u32 at an offset.
 abbrev pub long : List ℕ → ℕ → ℕ
@@ -35,11 +33,3 @@ acceptedLine coil length station count reached =
 -- as `coil 8 refused 6`
 unfoldable pub refusalLine : ℕ → ℕ → List ℕ
 refusalLine coil number = named "coil " coil ++ named " refused " number ++ ascii "\n"
-
-abbrev pub lineBy : Outcome → ℕ → List ℕ → List ℕ
-lineBy accepted coil line = line
-lineBy (refused number place) coil line = refusalLine coil number
-
-abbrev pub lineOf : ℕ → ℕ → ℕ → Reply → List ℕ
-lineOf coil length station r =
-    lineBy (r .outcome) coil (acceptedLine coil length station (r .count) (r .reached))

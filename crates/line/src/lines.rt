@@ -1,13 +1,11 @@
-// The line of a record: what the search answered, in words and decimal numbers, at the front of a buffer with
-// room for it.
+// The line of a record, of an accepted search or of a refused one, in words and decimal numbers, at the front of a
+// buffer with room for it.
 
 ghost use Prim.Native.Nat.{_≤_};
 ghost use lib.ListN.{length};
-ghost use Rattle.reply.specs.Reply.{replyOf};
-ghost use Rattle.line.specs.Line.{sourceWords, acceptedLine, refusalLine, lineOf};
+ghost use Rattle.line.specs.Line.{sourceWords, acceptedLine, refusalLine};
 ghost use Rattle.line.specs.Writing.{lineRoom, Fronted};
 use super::records::Record;
-use reply::Answer;
 use text::put_number;
 use text::put_text;
 
@@ -25,7 +23,7 @@ fn put_source(line: &mut [u8], parts: Record) -> usize
 }
 
 // `coil C length L from S pages K reached R`
-fn put_accepted(line: &mut [u8], parts: Record, count: usize, reached: usize) -> usize
+pub fn put_accepted(line: &mut [u8], parts: Record, count: usize, reached: usize) -> usize
     requires room { ⌜ lineRoom ≤ length (now line) ⌝ }
     ensures put { λ r. ⌜
         Fronted (acceptedLine (parts .coil) (parts .length) (parts .station) count reached)
@@ -39,7 +37,7 @@ fn put_accepted(line: &mut [u8], parts: Record, count: usize, reached: usize) ->
 }
 
 // `coil C refused N`
-fn put_refusal(line: &mut [u8], coil: u32, number: u8) -> usize
+pub fn put_refusal(line: &mut [u8], coil: u32, number: u8) -> usize
     requires room { ⌜ lineRoom ≤ length (now line) ⌝ }
     ensures put { λ r. ⌜ Fronted (refusalLine coil number) (now (line .entry)) (now (line .exit)) r ⌝ }
     ensures within { λ r. ⌜ r ≤ lineRoom ⌝ }
@@ -47,18 +45,4 @@ fn put_refusal(line: &mut [u8], coil: u32, number: u8) -> usize
     let mut at = put_number(line, 0, b"coil ", coil as u64);
     at = put_number(line, at, b" refused ", number as u64);
     put_text(line, at, b"\n")
-}
-
-// The line of a record whose search answered so.
-pub fn put_line(line: &mut [u8], parts: Record, answer: Answer) -> usize
-    requires room { ⌜ lineRoom ≤ length (now line) ⌝ }
-    ensures put { λ r. ⌜
-        Fronted (lineOf (parts .coil) (parts .length) (parts .station) (replyOf answer))
-        (now (line .entry)) (now (line .exit)) r ⌝ }
-    ensures within { λ r. ⌜ r ≤ lineRoom ⌝ }
-{
-    match answer {
-        Answer::Accepted { count, reached } => put_accepted(line, parts, count, reached),
-        Answer::Refused { refusal, count: _ } => put_refusal(line, parts.coil, refusal.number),
-    }
 }

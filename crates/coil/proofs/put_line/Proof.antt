@@ -1,7 +1,7 @@
 -- `put_line`: in each arm the answer is known, and the line is that of its reply.
 use Rattle.common.proofs.Ground.{needs}
-use Rattle.line.proofs.lines.put_line.Statement.{statement}
-use Rattle.line.proofs.lines.put_line.Tie as tie
+use Rattle.coil.proofs.put_line.Statement.{statement}
+use Rattle.coil.proofs.put_line.Tie as tie
 
 returns : tie.Need-returns
 returns c =
