@@ -1,11 +1,11 @@
 // The panel of the crane cabin (02, C-12): the least time from a source to one station, for a strip of a length, as the
-// DF search on tables of its own finds it.
+// DF search on tables of its own finds it; and this answer as one float.
 
 ghost use mathlib.Core.Path.{_≡_};
 ghost use Prim.Native.Nat.{_<_};
 ghost use Rattle.image.specs.Image.{accepted, refused, nowhere, stationCount, headingCheck, afterHeading};
 ghost use Rattle.reply.specs.Reply.{asked};
-ghost use Rattle.panel.specs.Panel.{answerBy, answerTo, inside};
+ghost use Rattle.panel.specs.Panel.{answerBy, answerTo, inside, outside};
 ghost use Rattle.panel.specs.Promises.{InsidePromised};
 use common::NO_TIME;
 use image::Checked;
@@ -66,4 +66,15 @@ pub fn time_to(image: &[u8], source: u16, strip: u16, station: u16) -> Shown
         return no_such_station(image);
     }
     on_map(image, source, strip, station)
+}
+
+// What the panel shows, as one float.
+pub fn one_float(shown: Shown) -> f64
+    ensures value { λ r. ⌜ r ≡ outside shown ⌝ }
+{
+    match shown {
+        Shown::Tenths(tenths) => tenths,
+        Shown::NoRoute => -1.0,
+        Shown::Refused(number) => -((100 + number as u16) as f64),
+    }
 }

@@ -1,17 +1,14 @@
-// Answers told to a C caller: each as its status and four numbers, which are put into the answer where it has room; the
-// panel's as one float.
+// Answers told to a C caller: each as its status and four numbers, which are put into the answer where it has room.
 
 ghost use mathlib.Core.Path.{_≡_};
 ghost use Rattle.image.specs.Image.{refused, placeOf, outcomeOf};
 ghost use Rattle.reply.specs.Reply.{replyOf};
-ghost use Rattle.panel.specs.Panel.{outside};
 ghost use Rattle.route.specs.Route.{meaning};
 ghost use Rattle.telling.specs.Numbers.{numbers, told, toldBy, ofOutcome, ofCheck, ofSearch, ofRoute, Small};
 use super::Numbers;
 use image::Checked;
 use image::Place;
 use image::Refusal;
-use panel::Shown;
 use reply::Answer;
 use route::RouteAnswer;
 
@@ -89,15 +86,4 @@ pub fn tell_search(answered: Answer, answer: &mut [u32]) -> u32
         told r (now (answer .exit)) ≡ toldBy (ofSearch (replyOf answered)) (now (answer .entry)) ⌝ }
 {
     tell(of_search(answered), answer)
-}
-
-// What the panel shows, as one float.
-pub fn one_float(shown: Shown) -> f64
-    ensures value { λ r. ⌜ r ≡ outside shown ⌝ }
-{
-    match shown {
-        Shown::Tenths(tenths) => tenths,
-        Shown::NoRoute => -1.0,
-        Shown::Refused(number) => -((100 + number as u16) as f64),
-    }
 }

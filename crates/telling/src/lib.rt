@@ -1,4 +1,4 @@
-// What the C interface tells its caller: of each call's answer a status and four numbers, and of the panel's one float.
+// What the C interface tells its caller: of each answer but the panel's, which is one float, a status and four numbers.
 
 pub mod answers;
 

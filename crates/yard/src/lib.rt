@@ -15,7 +15,6 @@ ghost use Rattle.telling.specs.Numbers.{told, toldBy, ofCheck, ofRoute};
 ghost use Rattle.yard.specs.Searches.{SearchTold};
 use telling::answers::of_check;
 use telling::answers::of_route;
-use telling::answers::one_float;
 use telling::answers::tell;
 use telling::answers::tell_search;
 
@@ -94,5 +93,5 @@ pub extern "C" fn yard_route(
 pub extern "C" fn yard_panel(image: &[u8], source: u16, strip: u16, station: u16) -> f64
     ensures promised { λ r. ⌜ OutsidePromised (asked (now (image .entry)) source strip) station r ⌝ }
 {
-    one_float(panel::time_to(image, source, strip, station))
+    panel::one_float(panel::time_to(image, source, strip, station))
 }

@@ -1,9 +1,9 @@
 -- In each arm what is shown is known, and the float is the definition's.
 use Rattle.common.proofs.Ground.{sym, ap, needs}
 use lib.Ieee.{ofBits, ofInt}
 use Rattle.panel.specs.Panel.{outside}
-use Rattle.telling.proofs.answers.one_float.Statement.{statement}
-use Rattle.telling.proofs.answers.one_float.Tie as tie
+use Rattle.panel.proofs.one_float.Statement.{statement}
+use Rattle.panel.proofs.one_float.Tie as tie
 
 returns-2 : tie.Need-returns-2
 unfolding ofBits ofInt
