@@ -1,4 +1,4 @@
-// One reference of a search: the page of the station that is first of those that wait is listed, fetched, and worked on.
+// One reference of a search: the page of the station that is first of those that wait is listed, fetched and worked on.
 // Between references the working memory stands for a state of the net's run (specs/Standing.antt).
 
 ghost use mathlib.Core.Path.{_≡_};
