@@ -1,5 +1,5 @@
--- Commands at an offset: the table of their lengths, what stands there if one is read, and each command by its code.
-use Rattle.common.proofs.Ground.{_≡_, refl, subst, _&&_, _⊎_, inl, inr, List, ℕ, zero, suc, _+_, _≤_, _<_, arith}
+-- Commands at an offset: their lengths, what stands there if one is read, and each command by its code.
+use Rattle.common.proofs.Ground.{_≡_, refl, subst, _&&_, _⊎_, inl, inr, List, ℕ, zero, suc, _+_, _*_, _≤_, _<_, arith}
 use Rattle.common.proofs.Ground.{length, getD, lit≤, eqb, ltb, leb, ltb-false, eqb-true, eqb-false, lt-leb, le-ltb}
 use Rattle.common.proofs.Ground.{lt-ltb}
 use Rattle.common.proofs.Cases.{by-pick}
@@ -10,6 +10,15 @@ use Rattle.commands.specs.declared.Command.{Command}
 use Rattle.commands.specs.declared.Command.the-variants.{End, Station, MoveTo, Limited, Fault}
 use Rattle.image.specs.Bytes.{word}
 use Rattle.commands.specs.Commands.{lengthOf, moveWith, commandAt}
+
+-- C-13: "A known code c has length 1 + 2·c", as each of the four rows has it. The checker computes both sides, row by
+-- row.
+pub by-formula : (code : ℕ) → code < 4 → lengthOf code ≡ 1 + 2 * code
+by-formula zero known = refl
+by-formula (suc zero) known = refl
+by-formula (suc (suc zero)) known = refl
+by-formula (suc (suc (suc zero))) known = refl
+by-formula (suc (suc (suc (suc code)))) known = absurd (omega arith)
 
 -- no command is longer than a page
 pub length-most : (code : ℕ) → lengthOf code ≤ 256

@@ -34,15 +34,13 @@ pub const MOVE: u8 = 2;
 // `03` is a move of the latest station, with a limit.
 pub const LIMITED: u8 = 3;
 
-// The length of a command by its code.
-const LENGTHS: [usize; 4] = [1, 3, 5, 7];
-
-// The length of a command of a known code. Whatever passes over a command asks here.
+// The length of a command of a known code c is 1 + 2·c (02, C-13): a byte for the code, and two for each operand, of
+// which it has c. Whatever passes over a command asks here.
 pub fn length_of(code: u8) -> usize
     requires known { ⌜ code < 4 ⌝ }
     ensures value { λ r. ⌜ r ≡ lengthOf code ⌝ }
 {
-    LENGTHS[code as usize]
+    1 + 2 * (code as usize)
 }
 
 // Whether a command of this code, which stands at an offset of a page, ends within it.
