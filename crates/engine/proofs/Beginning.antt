@@ -5,7 +5,7 @@ use Rattle.common.proofs.Ground.{length, getD, replicate, length-replicate, get
 use Rattle.common.proofs.Ground.{ne-eqb}
 use Rattle.common.specs.Numbers.{nobody, noTime}
 use Rattle.net.specs.Net.{Frame}
-use Rattle.net.specs.Search.{State, going, timeOf, start, iter}
+use Rattle.net.specs.Search.{State, going, costOf, start, iter}
 use Rattle.net.proofs.Runs.{Standing, run-standing, start-waits}
 use Rattle.layout.specs.Places.{Placed}
 use Rattle.image.specs.Bytes.{Bytes}
@@ -53,7 +53,7 @@ module _ {q : Serving} {places : List ℕ} (placing : Placing q places) {m : Mem
   unfolding iter
   standing = run-standing (placing .sound) (q .df) 0
 
-  other-time : (v : ℕ) → v < length (q .directory) → v ≢ q .source → timeOf F begun v ≡ noTime
+  other-time : (v : ℕ) → v < length (q .directory) → v ≢ q .source → costOf F begun v ≡ noTime
   unfolding start
   other-time v h n = rw (getD-set-other, getD-replicate)
 

@@ -5,7 +5,7 @@ use mathlib.Core.List.{List, _++_}
 use Prim.Native.Nat.{ℕ, _<_}
 use lib.ListN.{length, getD, drop}
 use Rattle.net.specs.Net.{Frame}
-use Rattle.net.specs.Search.{State, going, refused, timeOf, predOf}
+use Rattle.net.specs.Search.{State, going, refused, costOf, predOf}
 use Rattle.net.specs.Run.{searchOf}
 use Rattle.reference.specs.declared.Query.{Query}
 use Rattle.engine.specs.declared.Ended.{Ended}
@@ -16,7 +16,7 @@ use Rattle.work.specs.Board.{CellIs}
 -- Each station's cell holds its time and predecessor in state s.
 abbrev pub CellsHold : Frame → ℕ → State → List ℕ → Type 0
 CellsHold F source s cells =
-    (v : ℕ) → v < F .size → CellIs source v (timeOf F s v) (predOf s v) (getD cells v 0)
+    (v : ℕ) → v < F .size → CellIs source v (costOf F s v) (predOf s v) (getD cells v 0)
 
 -- The page list at the front of a list, and the later entries kept.
 abbrev pub Listed : State → List ℕ → List ℕ → ℕ → Type 0

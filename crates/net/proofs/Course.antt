@@ -5,7 +5,7 @@ use Rattle.common.proofs.Ground.{_≡_, refl, Bool, true, false, not, _||_, Lis
 use Rattle.common.proofs.Ground.{Sublistᴰ·cons, Sublistᴰ·cons-cons, ℕ, _+_, getD, take, eqb}
 use Rattle.common.specs.Pick.{pick}
 use Rattle.net.specs.Net.{Move, Page, good, bad, Frame, one}
-use Rattle.net.specs.Search.{State, refused, timeOf, predOf, isFresh, withTables, settle, markFresh, start}
+use Rattle.net.specs.Search.{State, refused, costOf, predOf, isFresh, withTables, settle, markFresh, start}
 use Rattle.net.specs.Search.{least, choose}
 use Rattle.net.specs.Search.{chooseOn, onChoice, iter, readFor, relax, relaxAll, visit, workTurn, workThrough}
 use Rattle.net.specs.Search.{dfVisit, noneOrLess, stepBy, searchBy, dfSearch}
@@ -27,10 +27,10 @@ m7-page p = good (λ u. getD m7-moves u [])
 
 -- The times of M7 from 0 after one, two and three DF steps; the steps after these fetch nothing and change no time.
 pub m7-step-by-step :
-    ((afterDf m7 m7-page 0 1) .times ≡ 0 ∷ 4 ∷ 7 ∷ 10 ∷ 2 ∷ 13 ∷ 4294967295 ∷ [])
-    × ((afterDf m7 m7-page 0 2) .times ≡ 0 ∷ 4 ∷ 3 ∷ 10 ∷ 2 ∷ 8 ∷ 9 ∷ [])
-    × ((afterDf m7 m7-page 0 3) .times ≡ 0 ∷ 4 ∷ 3 ∷ 6 ∷ 2 ∷ 8 ∷ 9 ∷ [])
-    × ((dfSearch m7 m7-page 0) .times ≡ (afterDf m7 m7-page 0 3) .times)
+    ((afterDf m7 m7-page 0 1) .costs ≡ 0 ∷ 4 ∷ 7 ∷ 10 ∷ 2 ∷ 13 ∷ 4294967295 ∷ [])
+    × ((afterDf m7 m7-page 0 2) .costs ≡ 0 ∷ 4 ∷ 3 ∷ 10 ∷ 2 ∷ 8 ∷ 9 ∷ [])
+    × ((afterDf m7 m7-page 0 3) .costs ≡ 0 ∷ 4 ∷ 3 ∷ 6 ∷ 2 ∷ 8 ∷ 9 ∷ [])
+    × ((dfSearch m7 m7-page 0) .costs ≡ (afterDf m7 m7-page 0 3) .costs)
     × ((dfSearch m7 m7-page 0) .pages ≡ 0 ∷ 1 ∷ 0 ∷ [])
 unfolding iter least relax relaxAll visit choose chooseOn workTurn workThrough readFor dfVisit stepBy searchBy
     start dfSearch
@@ -38,7 +38,7 @@ m7-step-by-step = (refl, refl, refl, refl, refl)
 
 -- "Worked through is final": station 2 has time 7 after the first step, which works page 0 through, and 3 at the end.
 pub worked-through-is-not-final :
-    (timeOf m7 (afterDf m7 m7-page 0 1) 2 ≡ 7) × (timeOf m7 (dfSearch m7 m7-page 0) 2 ≡ 3)
+    (costOf m7 (afterDf m7 m7-page 0 1) 2 ≡ 7) × (costOf m7 (dfSearch m7 m7-page 0) 2 ≡ 3)
 unfolding iter least relax relaxAll visit choose chooseOn workTurn workThrough readFor dfVisit stepBy searchBy
     start dfSearch
 worked-through-is-not-final = (refl, refl)
@@ -46,8 +46,8 @@ worked-through-is-not-final = (refl, refl)
 -- "Stop when each page has been seen once": after two steps the list is 0 1, and each page of the map stands in it, but
 -- station 3 has time 10 then; at the end it has 6.
 pub seen-once-is-not-the-end :
-    ((afterDf m7 m7-page 0 2) .pages ≡ 0 ∷ 1 ∷ []) × (timeOf m7 (afterDf m7 m7-page 0 2) 3 ≡ 10)
-    × (timeOf m7 (dfSearch m7 m7-page 0) 3 ≡ 6)
+    ((afterDf m7 m7-page 0 2) .pages ≡ 0 ∷ 1 ∷ []) × (costOf m7 (afterDf m7 m7-page 0 2) 3 ≡ 10)
+    × (costOf m7 (dfSearch m7 m7-page 0) 3 ≡ 6)
 unfolding iter least relax relaxAll visit choose chooseOn workTurn workThrough readFor dfVisit stepBy searchBy
     start dfSearch
 seen-once-is-not-the-end = (refl, refl, refl)
@@ -65,12 +65,12 @@ module _ (F : Frame) (page : ℕ → Page) (visitAs : (ℕ → List Move) → �
 abbrev visitStaying : Frame → (ℕ → List Move) → ℕ → State → State
 visitStaying F moves u s =
     let t = visit F (noneOrLess F) moves u s in
-    withTables (t .times) (t .preds) ((markFresh u s) .marks) t
+    withTables (t .costs) (t .preds) ((markFresh u s) .marks) t
 
 -- "A lowered station may stay fresh": then station 3 keeps 10, though a walk of 6 leads there.
 pub lowered-must-not-stay-fresh :
-    (timeOf m7 (searchBy m7 (dfVisitAs m7 m7-page (visitStaying m7)) 0) 3 ≡ 10)
-    × (timeOf m7 (dfSearch m7 m7-page 0) 3 ≡ 6)
+    (costOf m7 (searchBy m7 (dfVisitAs m7 m7-page (visitStaying m7)) 0) 3 ≡ 10)
+    × (costOf m7 (dfSearch m7 m7-page 0) 3 ≡ 6)
 unfolding iter least relax relaxAll visit choose chooseOn workTurn workThrough readFor dfVisit stepBy searchBy
     start dfSearch
 lowered-must-not-stay-fresh = (refl, refl)
@@ -85,7 +85,7 @@ c6-page p = good (λ u. getD ((to 1 6 ∷ to 2 5 ∷ []) ∷ (to 3 4 ∷ []) ∷
 abbrev relaxFirst : Frame → ℕ → List Move → State → State
 relaxFirst F u [] s = s
 relaxFirst F u (m ∷ moves) s = relaxFirst F u moves
-    (pick (noneOrLess F (timeOf F s u + m .weight) (timeOf F s (m .target))) (relax F (noneOrLess F) u m s) s)
+    (pick (noneOrLess F (costOf F s u + m .weight) (costOf F s (m .target))) (relax F (noneOrLess F) u m s) s)
 
 abbrev visitFirst : Frame → (ℕ → List Move) → ℕ → State → State
 visitFirst F moves u s = relaxFirst F u (moves u) (markFresh u s)
@@ -94,7 +94,7 @@ visitFirst F moves u s = relaxFirst F u (moves u) (markFresh u s)
 -- the same time, 10. By the belief its predecessor would be 2; it is 1.
 pub lowest-predecessor-counts :
     (predOf (searchBy c6 (dfVisitAs c6 c6-page (visitFirst c6)) 0) 3 ≡ 2)
-    × (timeOf c6 (dfSearch c6 c6-page 0) 3 ≡ 10) × (predOf (dfSearch c6 c6-page 0) 3 ≡ 1)
+    × (costOf c6 (dfSearch c6 c6-page 0) 3 ≡ 10) × (predOf (dfSearch c6 c6-page 0) 3 ≡ 1)
 unfolding iter least relax relaxAll visit choose chooseOn workTurn workThrough readFor dfVisit stepBy searchBy
     start dfSearch
 lowest-predecessor-counts = (refl, refl, refl)
@@ -111,7 +111,7 @@ bad-page-ends-the-search = (refl, refl)
 
 -- The runs on M7 (specs/Run): C1 to C3, and C7.
 pub m7-runs :
-    ((runOf true m7 m7-page 0) .times ≡ 0 ∷ 4 ∷ 3 ∷ 6 ∷ 2 ∷ 8 ∷ 9 ∷ [])
+    ((runOf true m7 m7-page 0) .costs ≡ 0 ∷ 4 ∷ 3 ∷ 6 ∷ 2 ∷ 8 ∷ 9 ∷ [])
     × ((runOf true m7 m7-page 0) .preds ≡ 65534 ∷ 0 ∷ 4 ∷ 2 ∷ 0 ∷ 4 ∷ 5 ∷ [])
     × ((runOf true m7 m7-page 0) .pages ≡ 0 ∷ 1 ∷ 0 ∷ [])
     × ((runOf false m7 m7-page 0) .pages ≡ 0 ∷ 1 ∷ 0 ∷ 0 ∷ 0 ∷ 1 ∷ 1 ∷ [])

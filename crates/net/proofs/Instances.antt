@@ -114,7 +114,7 @@ offering-sound F page source test ok = record {
 pub offering-least-times : (F : Frame) (page : ℕ → Page) (source : ℕ) (test : ℕ → Move → Bool) → Sound F page source
     → let offered : (ℕ → Page) = λ p. offering test (page p) in
     (dfSearch F offered source) .halt ≡ going
-    → LeastTimes F offered source ((dfSearch F offered source) .times) ((dfSearch F offered source) .preds)
+    → LeastTimes F offered source ((dfSearch F offered source) .costs) ((dfSearch F offered source) .preds)
     (reached F (dfSearch F offered source))
 offering-least-times F page source test ok = df-least-times F (λ p. offering test (page p)) source
     (offering-sound F page source test ok)

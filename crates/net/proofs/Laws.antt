@@ -7,7 +7,7 @@ use Rattle.common.proofs.Cases.{le-or-lt}
 use Rattle.net.specs.declared.Choice.the-variants.{Station, Nobody}
 use Rattle.net.specs.Net.{Move, Page, good, Frame, Goes, Walk, here, onward, timesIn, entryStations}
 use Rattle.net.specs.Net.{onePageReads, count}
-use Rattle.net.specs.Search.{State, going, refused, timeOf, predOf, isSettled, isFresh, settle, withPage, start}
+use Rattle.net.specs.Search.{State, going, refused, costOf, predOf, isSettled, isFresh, settle, withPage, start}
 use Rattle.net.specs.Search.{reached}
 use Rattle.net.specs.Search.{choose, chooseOn, iter, visit, workTurn, workThrough, plainVisit, dfVisit}
 use Rattle.net.specs.Search.{noneOrLess}
@@ -140,11 +140,11 @@ module _ (F : Frame) (page : ℕ → Page) (source : ℕ) (ok : Sound F page sou
         ∙ sym (turns-one ok (F .pageOf u) moves is turns inHand in-hand-ready)
 
   -- Demand 2.
-  pub plain-least-times : plain .halt ≡ going → LeastTimes F page source (plain .times) (plain .preds) (reached F plain)
+  pub plain-least-times : plain .halt ≡ going → LeastTimes F page source (plain .costs) (plain .preds) (reached F plain)
   unfolding plainSearch searchBy
   plain-least-times g = ended-least-times ok isSettled plain (plain-holds (F .size) .inv g) g plain-ends
 
-  pub df-least-times : df .halt ≡ going → LeastTimes F page source (df .times) (df .preds) (reached F df)
+  pub df-least-times : df .halt ≡ going → LeastTimes F page source (df .costs) (df .preds) (reached F df)
   unfolding dfSearch searchBy
   df-least-times g = ended-least-times ok isFresh df (df-holds (F .size) .inv g) g df-ends
 
@@ -153,9 +153,9 @@ module _ (F : Frame) (page : ℕ → Page) (source : ℕ) (ok : Sound F page sou
   unfolding plainSearch dfSearch searchBy
   same-halt = both-hold (F .size) .halt
 
-  pub same-tables : df .halt ≡ going → (plain .times ≡ df .times) × (plain .preds ≡ df .preds)
-  same-tables g = least-times-fix ok (plain .times) (plain .preds) (reached F plain) (plain-least-times (same-halt ∙ g))
-      (df .times) (df .preds) (reached F df) (df-least-times g)
+  pub same-tables : df .halt ≡ going → (plain .costs ≡ df .costs) × (plain .preds ≡ df .preds)
+  same-tables g = least-times-fix ok (plain .costs) (plain .preds) (reached F plain) (plain-least-times (same-halt ∙ g))
+      (df .costs) (df .preds) (reached F df) (df-least-times g)
 
   pub same-reached : df .halt ≡ going → reached F plain ≡ reached F df
   unfolding reached
@@ -181,11 +181,11 @@ module _ (F : Frame) (page : ℕ → Page) (source : ℕ) (ok : Sound F page sou
   same-settled n = both-hold n .settled
 
   pub plain-chosen-least : (n u : ℕ) → choose F (plainAt n) ≡ Station u
-      → LeastCost F page source u (timeOf F (plainAt n) u)
+      → LeastCost F page source u (costOf F (plainAt n) u)
   plain-chosen-least n = rw (plain-steps-one-comparison n)
       (chosen-least ok isSettled (plainVisit F ltb page) (plain-settling ok) (start-unsettled ok) n)
 
-  pub df-chosen-least : (n u : ℕ) → choose F (dfAt n) ≡ Station u → LeastCost F page source u (timeOf F (dfAt n) u)
+  pub df-chosen-least : (n u : ℕ) → choose F (dfAt n) ≡ Station u → LeastCost F page source u (costOf F (dfAt n) u)
   df-chosen-least n = rw (df-steps-one-comparison n)
       (chosen-least ok isFresh (dfVisit F ltb page) (df-settling ok) (start-stale ok) n)
 
@@ -218,15 +218,15 @@ module _ (F : Frame) (page : ℕ → Page) (source : ℕ) (ok : Sound F page sou
   df-list g = record { part = list-part; often = list-often; reads = list-reads; short = df-short }
 
   -- The sum of a time and a move stays below none, after any number of steps of either search.
-  pub plain-sum-below-none : (n u v w : ℕ) → (plainAt n) .halt ≡ going → timeOf F (plainAt n) u < F .none
+  pub plain-sum-below-none : (n u v w : ℕ) → (plainAt n) .halt ≡ going → costOf F (plainAt n) u < F .none
       → Goes F page u v w
-      → timeOf F (plainAt n) u + w < F .none
-  plain-sum-below-none n u v w g = sum-below-none ok (timeOf F (plainAt n)) (predOf (plainAt n))
+      → costOf F (plainAt n) u + w < F .none
+  plain-sum-below-none n u v w g = sum-below-none ok (costOf F (plainAt n)) (predOf (plainAt n))
       (plain-holds n .inv g .labels .rooted) u v w
 
-  pub df-sum-below-none : (n u v w : ℕ) → (dfAt n) .halt ≡ going → timeOf F (dfAt n) u < F .none → Goes F page u v w
-      → timeOf F (dfAt n) u + w < F .none
-  df-sum-below-none n u v w g = sum-below-none ok (timeOf F (dfAt n)) (predOf (dfAt n))
+  pub df-sum-below-none : (n u v w : ℕ) → (dfAt n) .halt ≡ going → costOf F (dfAt n) u < F .none → Goes F page u v w
+      → costOf F (dfAt n) u + w < F .none
+  df-sum-below-none n u v w g = sum-below-none ok (costOf F (dfAt n)) (predOf (dfAt n))
       (df-holds n .inv g .labels .rooted) u v w
 
 -- The room that a map has: 2,048 stations, moves up to 65,535, and none 4,294,967,295.

@@ -12,7 +12,7 @@ use Rattle.common.specs.Numbers.{sourceMark, noPred}
 use Rattle.net.specs.declared.Choice.{Choice}
 use Rattle.net.specs.declared.Choice.the-variants.{Station, Nobody}
 use Rattle.net.specs.Net.{Move, Page, good, bad, Frame, Goes}
-use Rattle.net.specs.Search.{State, going, refused, withPage, withHalt, timeOf, predOf}
+use Rattle.net.specs.Search.{State, going, refused, withPage, withHalt, costOf, predOf}
 use Rattle.net.specs.Search.{reached, start, iter, onPage, relaxTo, relax, relaxAll, searchBy}
 use Rattle.net.specs.Run.{searchOf, unmarked, stopWaiting, turnLimit, waits, firstWaiting, firstOn, visitOf}
 use Rattle.net.specs.Run.{turnOf, pageWork, reference, stepRun, afterReferences, runOf, InHand}
@@ -37,13 +37,13 @@ use Rattle.net.proofs.Laws.{plain-one-comparison, df-one-comparison}
 -- What the tables of a run hold at any time.
 pub record Standing (F : Frame) (page : ℕ → Page) (source : ℕ) (s : State) : Type 0 where
   pub sizes : Tables F s
-  pub inside : (v : ℕ) → timeOf F s v < F .none → v < F .size
-  pub source-time : timeOf F s source ≡ 0
+  pub inside : (v : ℕ) → costOf F s v < F .none → v < F .size
+  pub source-time : costOf F s source ≡ 0
   pub source-pred : predOf s source ≡ sourceMark
-  pub pred-inside : (v : ℕ) → v ≢ source → timeOf F s v < F .none → predOf s v < F .size
-  pub no-pred : (v : ℕ) → F .none ≤ timeOf F s v → predOf s v ≡ noPred
+  pub pred-inside : (v : ℕ) → v ≢ source → costOf F s v < F .none → predOf s v < F .size
+  pub no-pred : (v : ℕ) → F .none ≤ costOf F s v → predOf s v ≡ noPred
   -- no sum that relaxing forms reaches none
-  pub sums : (u v w : ℕ) → timeOf F s u < F .none → Goes F page u v w → timeOf F s u + w < F .none
+  pub sums : (u v w : ℕ) → costOf F s u < F .none → Goes F page u v w → costOf F s u + w < F .none
 
 -- A move of x that is relaxed next, in state r; the sum is that of its weight and the time x had before its visit.
 pub record NextMove (df : Bool) (F : Frame) (x sum : ℕ) (next : Move) (r : State) : Type 0 where
@@ -52,15 +52,15 @@ pub record NextMove (df : Bool) (F : Frame) (x sum : ℕ) (next : Move) (r : Sta
   pub by-sum : relax F ltb x next r ≡ relaxTo F ltb x (next .target) sum r
   -- its target waits if it is lowered, and all others wait as before
   pub wakes : (v : ℕ)
-      → waits df F (relax F ltb x next r) v ≡ ((eqb v (next .target) && ltb sum (timeOf F r v)) || waits df F r v)
+      → waits df F (relax F ltb x next r) v ≡ ((eqb v (next .target) && ltb sum (costOf F r v)) || waits df F r v)
 
-relax-by-sum : (F : Frame) (x : ℕ) (next : Move) (r : State) (time : ℕ) → timeOf F r x ≡ time
+relax-by-sum : (F : Frame) (x : ℕ) (next : Move) (r : State) (time : ℕ) → costOf F r x ≡ time
     → relax F ltb x next r ≡ relaxTo F ltb x (next .target) (time + next .weight) r
 unfolding relax
 relax-by-sum F x next r time e = ap (λ t. relaxTo F ltb x (next .target) (t + next .weight) r) e
 
 module _ {F : Frame} {page : ℕ → Page} {source : ℕ} (ok : Sound F page source) where
-  standing : (s : State) → Tables F s → Rooted ok (timeOf F s) (predOf s) → Standing F page source s
+  standing : (s : State) → Tables F s → Rooted ok (costOf F s) (predOf s) → Standing F page source s
   standing s z r = record {
     sizes = z;
     inside = r .inside;
@@ -68,7 +68,7 @@ module _ {F : Frame} {page : ℕ → Page} {source : ℕ} (ok : Sound F page sou
     source-pred = r .source-pred;
     pred-inside = λ v ne h. let (w, g, le) = r .root v h .from ne in r .inside (predOf s v) (omega arith);
     no-pred = r .none;
-    sums = sum-below-none ok (timeOf F s) (predOf s) r;
+    sums = sum-below-none ok (costOf F s) (predOf s) r;
   }
 
   -- The run is the search by the letter, but for the marks.
@@ -104,8 +104,8 @@ module _ {F : Frame} {page : ℕ → Page} {source : ℕ} (ok : Sound F page sou
     abbrev runAt : ℕ → State
     runAt = afterReferences df F page source
 
-    pub run-times : (searchOf df F page source) .times ≡ run .times
-    run-times = ap (λ s. s .times) (run-is-search df)
+    pub run-costs : (searchOf df F page source) .costs ≡ run .costs
+    run-costs = ap (λ s. s .costs) (run-is-search df)
 
     pub run-preds : (searchOf df F page source) .preds ≡ run .preds
     run-preds = ap (λ s. s .preds) (run-is-search df)
@@ -254,7 +254,7 @@ module _ {F : Frame} {page : ℕ → Page} {source : ℕ} (ok : Sound F page sou
       pub visit-on : F .pageOf x ≡ p
       visit-on = on-lowest df F s p x f .0
 
-      pub visit-timed : timeOf F s x < F .none
+      pub visit-timed : costOf F s x < F .none
       visit-timed = waits-timed df F s x (on-waits df F s p x f)
 
       abbrev stopped : State
@@ -295,20 +295,20 @@ module _ {F : Frame} {page : ℕ → Page} {source : ℕ} (ok : Sound F page sou
           pub visit-standing : Standing F page source part
           visit-standing = standing part (now .tables) (now .rooted)
 
-          pub visit-time : timeOf F part x ≡ timeOf F s x
+          pub visit-time : costOf F part x ≡ costOf F s x
           visit-time = visiting-time ok df x stopped visiting before goes ∙ stopped-time F df x s x
 
         pub visit-move : (before rest : List Move) (next : Move) → moves x ≡ before ++ (next ∷ rest)
-            → NextMove df F x (timeOf F s x + next .weight) next (relaxAll F ltb x before stopped)
+            → NextMove df F x (costOf F s x + next .weight) next (relaxAll F ltb x before stopped)
         visit-move before rest next split =
             let r = relaxAll F ltb x before stopped in
-            let time : timeOf F r x ≡ timeOf F s x = visit-time before (next ∷ rest) split in
+            let time : costOf F r x ≡ costOf F s x = visit-time before (next ∷ rest) split in
             let go = part-goes before (next ∷ rest) split next (Memᴰ·append-right before (List·Memᴰ·head refl)) in
             let v = now before (next ∷ rest) split in
             record {
               target = ok .moves x (next .target) (next .weight) go .2;
               sum-below = rw time at (visiting-sum ok df x r v next go);
-              by-sum = relax-by-sum F x next r (timeOf F s x) time;
+              by-sum = relax-by-sum F x next r (costOf F s x) time;
               wakes = rw time at (visiting-waits ok df x r v next go);
             }
 

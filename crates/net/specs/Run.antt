@@ -11,7 +11,7 @@ use Rattle.net.specs.declared.Choice.{Choice}
 use Rattle.net.specs.declared.Choice.the-variants.{Station, Nobody}
 use Rattle.net.specs.Net.{Move, Page, good, Frame}
 use Rattle.net.specs.Search.{State, Halt, going, refused, isSettled, isFresh, withTables, settle, markFresh}
-use Rattle.net.specs.Search.{withPage, timeOf, hasTime, start, least, onChoice, iter, onPage, relaxAll}
+use Rattle.net.specs.Search.{withPage, costOf, hasTime, start, least, onChoice, iter, onPage, relaxAll}
 use Rattle.net.specs.Search.{plainSearch, dfSearch}
 
 -- The search that the flag names: DF where it is true.
@@ -21,7 +21,7 @@ searchOf false = plainSearch
 
 -- A state without its marks.
 abbrev pub unmarked : State → State
-unmarked s = withTables (s .times) (s .preds) [] s
+unmarked s = withTables (s .costs) (s .preds) [] s
 
 -- v has been visited at its present time. DF: "mark it fresh and relax its moves"; plain: "Settle it, .. relax its
 -- moves".
@@ -45,7 +45,7 @@ module _ (df : Bool) (F : Frame) where
 
   -- ".. of least time, then lowest number", of all that wait; nobody once a bad page ended the search
   abbrev pub firstAt : Halt → State → Choice
-  firstAt going s = least (timeOf F s) (waits s) (F .size)
+  firstAt going s = least (costOf F s) (waits s) (F .size)
   firstAt (refused number p offset) s = Nobody
 
   unfoldable pub firstWaiting : State → Choice
@@ -53,7 +53,7 @@ module _ (df : Bool) (F : Frame) where
 
   -- and of those on page p
   unfoldable pub firstOn : ℕ → State → Choice
-  firstOn p s = least (timeOf F s) (λ v. eqb (F .pageOf v) p && waits s v) (F .size)
+  firstOn p s = least (costOf F s) (λ v. eqb (F .pageOf v) p && waits s v) (F .size)
 
   -- A visit of u; a turn with page p in hand, which changes nothing if nobody waits there; and all its turns.
   unfoldable pub visitOf : (ℕ → List Move) → ℕ → State → State

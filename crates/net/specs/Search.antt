@@ -15,10 +15,10 @@ pub data Halt : Type 0 where
   going : Halt
   refused : ℕ → ℕ → ℕ → Halt
 
--- Per station a time or none, a predecessor, and a mark: 1 if settled plus 2 if fresh (the thesis's Valid);
+-- Per station a cost (01: its time), a predecessor, and a mark: 1 if settled plus 2 if fresh (the thesis's Valid);
 -- beside them the page list, which is the references made so far, in order.
 pub record State : Type 0 where
-  pub times : List ℕ
+  pub costs : List ℕ
   pub preds : List ℕ
   pub marks : List ℕ
   pub pages : List ℕ
@@ -38,21 +38,21 @@ isFresh s v = leb 2 (markOf s v)
 
 -- The state with other tables, with v settled, with v fresh, with one more reference, and ended by a bad page.
 abbrev pub withTables : List ℕ → List ℕ → List ℕ → State → State
-withTables times preds marks s =
-    record { times = times; preds = preds; marks = marks; pages = s .pages; halt = s .halt }
+withTables costs preds marks s =
+    record { costs = costs; preds = preds; marks = marks; pages = s .pages; halt = s .halt }
 
 abbrev pub settle : ℕ → State → State
-settle v s = withTables (s .times) (s .preds) (set (s .marks) v (markOf s v / 2 * 2 + 1)) s
+settle v s = withTables (s .costs) (s .preds) (set (s .marks) v (markOf s v / 2 * 2 + 1)) s
 
 abbrev pub markFresh : ℕ → State → State
-markFresh v s = withTables (s .times) (s .preds) (set (s .marks) v (markOf s v % 2 + 2)) s
+markFresh v s = withTables (s .costs) (s .preds) (set (s .marks) v (markOf s v % 2 + 2)) s
 
 abbrev pub withPage : ℕ → State → State
 withPage p s =
-    record { times = s .times; preds = s .preds; marks = s .marks; pages = s .pages ++ (p ∷ []); halt = s .halt }
+    record { costs = s .costs; preds = s .preds; marks = s .marks; pages = s .pages ++ (p ∷ []); halt = s .halt }
 
 abbrev pub withHalt : Halt → State → State
-withHalt h s = record { times = s .times; preds = s .preds; marks = s .marks; pages = s .pages; halt = h }
+withHalt h s = record { costs = s .costs; preds = s .preds; marks = s .marks; pages = s .pages; halt = h }
 
 -- Of the numbers below n that pass the test, the one of least key, then the lowest.
 abbrev pub better : (ℕ → ℕ) → ℕ → Bool → Choice → Choice
@@ -74,11 +74,11 @@ iter step zero s = s
 iter step (suc n) s = iter step n (step s)
 
 module _ (F : Frame) where
-  abbrev pub timeOf : State → ℕ → ℕ
-  timeOf s v = getD (s .times) v (F .none)
+  abbrev pub costOf : State → ℕ → ℕ
+  costOf s v = getD (s .costs) v (F .none)
 
   abbrev pub hasTime : State → ℕ → Bool
-  hasTime s v = ltb (timeOf s v) (F .none)
+  hasTime s v = ltb (costOf s v) (F .none)
 
   -- the number of stations reached
   unfoldable pub reached : State → ℕ
@@ -87,7 +87,7 @@ module _ (F : Frame) where
   -- "At the start the source has time 0 and nothing is settled or fresh."
   unfoldable pub start : ℕ → State
   start source = record {
-    times = set (replicate (F .size) (F .none)) source 0;
+    costs = set (replicate (F .size) (F .none)) source 0;
     preds = set (replicate (F .size) noPred) source sourceMark;
     marks = replicate (F .size) 0;
     pages = [];
@@ -96,7 +96,7 @@ module _ (F : Frame) where
 
   -- "choose the unsettled station of least time, then lowest number"; a search that a bad page ended chooses nobody
   abbrev pub chooseAt : Halt → State → Choice
-  chooseAt going s = least (timeOf s) (λ v. not (isSettled s v) && hasTime s v) (F .size)
+  chooseAt going s = least (costOf s) (λ v. not (isSettled s v) && hasTime s v) (F .size)
   chooseAt (refused number p offset) s = Nobody
 
   unfoldable pub choose : State → Choice
@@ -104,7 +104,7 @@ module _ (F : Frame) where
 
   -- "this page has a station that has a time and isn't fresh, take the one of least time, then lowest number"
   unfoldable pub chooseOn : ℕ → State → Choice
-  chooseOn p s = least (timeOf s) (λ v. eqb (F .pageOf v) p && (not (isFresh s v) && hasTime s v)) (F .size)
+  chooseOn p s = least (costOf s) (λ v. eqb (F .pageOf v) p && (not (isFresh s v) && hasTime s v)) (F .size)
 
 -- "Settle it, append its page to the list, read the page": what a good page is read for is each search's own.
 -- "A bad page ends a search with that page's refusal."
@@ -121,13 +121,13 @@ module _ (F : Frame) (less : ℕ → ℕ → Bool) where
   -- the predecessor becomes u."
   abbrev pub relaxTo : ℕ → ℕ → ℕ → State → State
   relaxTo u v sum s =
-      pick (less sum (timeOf F s v))
-      (withTables (set (s .times) v sum) (set (s .preds) v u) (set (s .marks) v (markOf s v % 2)) s)
-      (pick (eqb sum (timeOf F s v) && ltb u (predOf s v)) (withTables (s .times) (set (s .preds) v u) (s .marks) s) s)
+      pick (less sum (costOf F s v))
+      (withTables (set (s .costs) v sum) (set (s .preds) v u) (set (s .marks) v (markOf s v % 2)) s)
+      (pick (eqb sum (costOf F s v) && ltb u (predOf s v)) (withTables (s .costs) (set (s .preds) v u) (s .marks) s) s)
 
   -- "Relax a move from u to v: sum = time of u + move time."
   unfoldable pub relax : ℕ → Move → State → State
-  relax u m s = relaxTo u (m .target) (timeOf F s u + m .weight) s
+  relax u m s = relaxTo u (m .target) (costOf F s u + m .weight) s
 
   unfoldable pub relaxAll : ℕ → List Move → State → State
   relaxAll u [] s = s

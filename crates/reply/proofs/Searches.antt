@@ -35,7 +35,7 @@ module _ (q : Query) where
       sound-of = image-sound (q .strip) (q .image) bytes (a .heading) (q .source) (rw size-of (a .inside))
 
       pub least-of : (df : Bool) → (found df) .halt ≡ going
-          → LeastTimes (frameOf q) (pagesOf q) (q .source) ((found df) .times) ((found df) .preds)
+          → LeastTimes (frameOf q) (pagesOf q) (q .source) ((found df) .costs) ((found df) .preds)
           (reached (frameOf q) (found df))
       least-of true = df-least-times (frameOf q) (pagesOf q) (q .source) sound-of
       least-of false = plain-least-times (frameOf q) (pagesOf q) (q .source) sound-of

@@ -5,7 +5,7 @@ use Rattle.common.proofs.Ground.{ℕ-discrete, length, getD, true, lt-ltb, ne-e
 use Rattle.common.specs.Numbers.{noTime, noPred}
 use Rattle.common.proofs.Cases.{le-or-lt}
 use Rattle.net.specs.Net.{Frame, Page, count}
-use Rattle.net.specs.Search.{State, timeOf, predOf, hasTime, reached}
+use Rattle.net.specs.Search.{State, costOf, predOf, hasTime, reached}
 use Rattle.net.specs.Demands.{Spells, at-source, step, LeastTimes}
 use Rattle.net.proofs.Sound.{Sound}
 use Rattle.work.specs.Board.{CellIs}
@@ -42,18 +42,18 @@ count-same p q zero e = refl
 count-same p q (suc n) e = rw (e n (omega arith), count-same p q n (λ v l. e v (omega arith)))
 
 module _ (F : Frame) (page : ℕ → Page) (source : ℕ) (ok : Sound F page source) (none : F .none ≡ noTime) (s : State)
-    (least : LeastTimes F page source (s .times) (s .preds) (reached F s)) {cells t p m : List ℕ} {r : ℕ}
+    (least : LeastTimes F page source (s .costs) (s .preds) (reached F s)) {cells t p m : List ℕ} {r : ℕ}
     (hold : CellsHold F source s cells) (f : Finished true cells (F .size) t p m r) where
   entry-shown : (v : ℕ) → v < F .size
-      → (timeIn (getD cells v 0) ≡ timeOf F s v) × (predIn (getD cells v 0) ≡ predOf s v)
+      → (timeIn (getD cells v 0) ≡ costOf F s v) × (predIn (getD cells v 0) ≡ predOf s v)
   entry-shown v l =
-      cell-shows source v (timeOf F s v) (predOf s v) (getD cells v 0) (hold v l) (λ other has.
+      cell-shows source v (costOf F s v) (predOf s v) (getD cells v 0) (hold v l) (λ other has.
       spelled-in-time ok (least .spells v (omega arith) .2) other)
 
-  pub all-written : length t ≡ F .size → length p ≡ F .size → (t ≡ s .times) × (p ≡ s .preds) × (r ≡ reached F s)
+  pub all-written : length t ≡ F .size → length p ≡ F .size → (t ≡ s .costs) × (p ≡ s .preds) × (r ≡ reached F s)
   unfolding reached
   all-written lt lp = (
-    shows-all _ t (s .times) (F .size) (F .none) lt (least .sizes .0) (f .times) (λ v h. entry-shown v h .0),
+    shows-all _ t (s .costs) (F .size) (F .none) lt (least .sizes .0) (f .times) (λ v h. entry-shown v h .0),
     shows-all _ p (s .preds) (F .size) noPred lp (least .sizes .1) (f .preds) (λ v h. entry-shown v h .1),
     f .reached ∙ count-same _ (hasTime F s) (F .size) (λ v l. rw (entry-shown v l .0, none)),
   )

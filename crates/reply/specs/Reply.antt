@@ -99,7 +99,7 @@ written F times preds pages t =
 -- made, the bad page last, and the answer gives count, page and offset."
 abbrev pub ended : Halt → Frame → State → Lent → Handed
 ended going F s t =
-    handed (reply accepted (length (s .pages)) (reached F s)) (written F (s .times) (s .preds) (s .pages) t)
+    handed (reply accepted (length (s .pages)) (reached F s)) (written F (s .costs) (s .preds) (s .pages) t)
 ended (net.refused number p offset) F s t =
     handed (reply (refused number (on-page p offset)) (length (s .pages)) 0)
     (written F (replicate (F .size) noTime) (replicate (F .size) noPred) (s .pages) t)

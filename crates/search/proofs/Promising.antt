@@ -53,7 +53,7 @@ module _ (q : Query) (t : Lent) (a : Admitted q t) (bytes : Bytes (q .image)) wh
   accepted-as df other g = ap (λ h. ended h (frameOf q) (found q df) other) g
 
   fronts : (df : Bool) (other : Lent) → (found q df) .halt ≡ going
-      → (firsts q (placed (other .times) 0 ((found q df) .times)) ≡ (found q df) .times)
+      → (firsts q (placed (other .times) 0 ((found q df) .costs)) ≡ (found q df) .costs)
       × (firsts q (placed (other .preds) 0 ((found q df) .preds)) ≡ (found q df) .preds)
   fronts df other g =
       let sizes = least-of q t a bytes df g .sizes in

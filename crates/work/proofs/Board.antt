@@ -7,7 +7,7 @@ use Rattle.common.proofs.Ground.{getD-set-same, getD-set-other, ltb-true, ltb-f
 use Rattle.common.proofs.Cases.{le-or-lt}
 use Rattle.common.specs.Numbers.{nobody, noTime}
 use Rattle.common.specs.Pick.{pick}
-use Rattle.net.specs.Search.{State, timeOf, predOf, withPage}
+use Rattle.net.specs.Search.{State, costOf, predOf, withPage}
 use Rattle.net.specs.Run.{waits, stopWaiting}
 use Rattle.net.proofs.Relaxing.Relax.{Relaxed as NetRelaxed, Kind, lowered, tied, kept}
 use Rattle.net.proofs.Steps.Waiting.{waits-listing}
@@ -109,7 +109,7 @@ module _ {q : Serving} {places : List ℕ} (placing : Placing q places) where
       ∙ sym (rw (r .waits) (least-elsewhere (m .waiting) v p _ h to (λ e. n (d .page v to ∙ e)))))
 
 stopped-tables : (df : Bool) (u : ℕ) (s : State)
-    → ((stopWaiting df u s) .times ≡ s .times) × ((stopWaiting df u s) .preds ≡ s .preds)
+    → ((stopWaiting df u s) .costs ≡ s .costs) × ((stopWaiting df u s) .preds ≡ s .preds)
 stopped-tables true u s = (refl, refl)
 stopped-tables false u s = (refl, refl)
 
@@ -118,13 +118,13 @@ module _ {q : Serving} {places : List ℕ} {hand : ℕ} {s : State} {m : Memory}
   module _ {u v sum : ℕ} {t : State} {m′ : Memory} (from : u < 2048) (to : v < length (q .directory)) (some : 0 < sum)
       (fits : sum < noTime) (net : NetRelaxed (frameOf q) u v sum s t)
       (wakes : (x : ℕ) → waits (q .df) (frameOf q) t x
-      ≡ ((eqb x v && ltb sum (timeOf (frameOf q) s x)) || waits (q .df) (frameOf q) s x))
+      ≡ ((eqb x v && ltb sum (costOf (frameOf q) s x)) || waits (q .df) (frameOf q) s x))
       (r : Relaxed places u v sum m m′) where
     abbrev time : ℕ
-    time = timeOf (frameOf q) s v
+    time = costOf (frameOf q) s v
 
-    cell-after : Kind (frameOf q) u v sum s t → (timeOf (frameOf q) t v ≡ min sum time)
-        × CellIs (q .source) v (timeOf (frameOf q) t v) (predOf t v) (min (getD (m .cells) v 0) (packed sum u))
+    cell-after : Kind (frameOf q) u v sum s t → (costOf (frameOf q) t v ≡ min sum time)
+        × CellIs (q .source) v (costOf (frameOf q) t v) (predOf t v) (min (getD (m .cells) v 0) (packed sum u))
     cell-after (lowered l et ep ef) =
         (omega arith, rw (et, ep) (cell-lowered (b .station v to .0) u sum from some fits l))
     cell-after (tied e l et ep ef) = (

@@ -7,7 +7,7 @@ use Rattle.common.proofs.Ground.{arith, ℕ-discrete, length, getD, set, take, 
 use Rattle.common.specs.Numbers.{nobody}
 use Rattle.net.specs.declared.Choice.the-variants.{Station}
 use Rattle.net.specs.Net.{Move, Frame, Goes}
-use Rattle.net.specs.Search.{State, timeOf, relax, relaxAll}
+use Rattle.net.specs.Search.{State, costOf, relax, relaxAll}
 use Rattle.net.specs.Run.{stopWaiting, firstOn, turnLimit, visitOf}
 use Rattle.net.proofs.Sound.{Sound}
 use Rattle.net.proofs.Relaxing.Relax.{relax-relaxed, relaxAll-last}
@@ -55,7 +55,7 @@ module _ {q : Serving} {k p left least : ℕ} {places layout : List ℕ} {m : Me
     x = least % 2048
 
     abbrev time : ℕ
-    time = timeOf F (h .state) x
+    time = costOf F (h .state) x
 
     abbrev stopped : State
     stopped = stopWaiting (q .df) x (h .state)

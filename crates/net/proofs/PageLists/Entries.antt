@@ -6,7 +6,7 @@ use Rattle.common.proofs.Ground.{dite, List, [], _∷_, _++_, List·Memᴰ, Lis
 use Rattle.common.proofs.Ground.{Memᴰ·append-right, ℕ, _+_, _<_, arith, ℕ-discrete, ltb}
 use Rattle.net.specs.declared.Choice.the-variants.{Nobody}
 use Rattle.net.specs.Net.{Move, Page, good, bad, Frame, Goes}
-use Rattle.net.specs.Search.{State, going, timeOf, isFresh, settle, withPage, markFresh, start, onPage, readFor}
+use Rattle.net.specs.Search.{State, going, costOf, isFresh, settle, withPage, markFresh, start, onPage, readFor}
 use Rattle.net.specs.Search.{relax, relaxAll, visit, workThrough, dfVisit}
 use Rattle.net.proofs.Sound.{Sound}
 use Rattle.net.proofs.Basics.Marks.{settle-fresh, markFresh-own, markFresh-other}
@@ -24,7 +24,7 @@ module _ (F : Frame) where
   -- why x is stale once moves of u have been relaxed: it was before, at the same time, or one of the moves leads
   -- there
   abbrev Why : List Move → State → State → ℕ → Type 0
-  Why moves s t x = ((isFresh s x ≡ false) × (timeOf F t x ≡ timeOf F s x)) ⊎
+  Why moves s t x = ((isFresh s x ≡ false) × (costOf F t x ≡ costOf F s x)) ⊎
       ((w : ℕ) × List·Memᴰ (record { target = x; weight = w }) moves)
 
   why-same : (moves : List Move) (s r t : State) (x : ℕ) → Same F r t x → Why moves s r x → Why moves s t x
@@ -55,7 +55,7 @@ module _ (F : Frame) where
       one m r k p q x f =
           let v = relax-relaxed F u m r (p .tables) (fits m k .1) in
           dite (ℕ-discrete x (m .target))
-          (λ e. rw e (kind-why moves s u m (timeOf F r u + m .weight) r (relax F ltb u m r) k q (v .kind) (rw e at f)))
+          (λ e. rw e (kind-why moves s u m (costOf F r u + m .weight) r (relax F ltb u m r) k q (v .kind) (rw e at f)))
           (λ ne. why-same moves s r (relax F ltb u m r) x (v .others x ne) (q x (sym (v .others x ne .fresh) ∙ f)))
 
 module _ (F : Frame) (page : ℕ → Page) (source : ℕ) where
@@ -84,7 +84,7 @@ module _ (F : Frame) (page : ℕ → Page) (source : ℕ) where
   })
 
   abbrev pub Entered : State → Type 0
-  Entered s = (x : ℕ) → isFresh s x ≡ false → timeOf F s x < F .none → Enters (s .pages) x
+  Entered s = (x : ℕ) → isFresh s x ≡ false → costOf F s x < F .none → Enters (s .pages) x
 
 module _ {F : Frame} {page : ℕ → Page} {source : ℕ} (ok : Sound F page source) where
   pub start-entered : Entered F page source (start F source)
@@ -93,7 +93,7 @@ module _ {F : Frame} {page : ℕ → Page} {source : ℕ} (ok : Sound F page sou
   -- While page p is in hand and the list is l.
   module _ (p : ℕ) (moves : ℕ → List Move) (is : page p ≡ good moves) (l : List ℕ) (there : List·Memᴰ p l) where
     InHand : State → Type 0
-    InHand r = (x : ℕ) → isFresh r x ≡ false → timeOf F r x < F .none → (F .pageOf x ≡ p) ⊎ Enters F page source l x
+    InHand r = (x : ℕ) → isFresh r x ≡ false → costOf F r x < F .none → (F .pageOf x ≡ p) ⊎ Enters F page source l x
 
     visit-in-hand : (y : ℕ) (r : State) → Ready ok r → F .pageOf y ≡ p → y < F .size → InHand r
         → InHand (visit F ltb moves y r)
@@ -106,7 +106,7 @@ module _ {F : Frame} {page : ℕ → Page} {source : ℕ} (ok : Sound F page sou
         goes m k = rw (on, is) k
 
         old : (isFresh (markFresh y r) x ≡ false)
-            × (timeOf F (relaxAll F ltb y (moves y) (markFresh y r)) x ≡ timeOf F r x)
+            × (costOf F (relaxAll F ltb y (moves y) (markFresh y r)) x ≡ costOf F r x)
             → (F .pageOf x ≡ p) ⊎ Enters F page source l x
         old k =
             let in-marks = ready .tables .marks in
@@ -127,7 +127,7 @@ module _ {F : Frame} {page : ℕ → Page} {source : ℕ} (ok : Sound F page sou
             })))
 
     loop-enters : (r : State) → Ready ok r → InHand r → (x : ℕ) → isFresh (workThrough F ltb p moves r) x ≡ false
-        → timeOf F (workThrough F ltb p moves r) x < F .none → Enters F page source l x
+        → costOf F (workThrough F ltb p moves r) x < F .none → Enters F page source l x
     unfolding workThrough InHand
     loop-enters r ready before x f h =
         let t = workThrough F ltb p moves r in

@@ -8,7 +8,7 @@ use Rattle.common.proofs.Ground.{le-ltb}
 use Rattle.common.proofs.Cases.{le-or-lt}
 use Rattle.common.specs.Numbers.{sourceMark, noPred}
 use Rattle.net.specs.Net.{Move, Page, Frame, isGood, movesOf, Goes, Walk, onward, count}
-use Rattle.net.specs.Search.{State, timeOf, predOf, relax, relaxAll}
+use Rattle.net.specs.Search.{State, costOf, predOf, relax, relaxAll}
 use Rattle.net.proofs.Sound.{Sound}
 use Rattle.net.proofs.Basics.Count.{count-le, count-mono, count-more}
 use Rattle.net.proofs.Relaxing.Relax.{Tables, Same, Kind, lowered, tied, kept, Relaxed, Spread, Met, Fits}
@@ -20,9 +20,9 @@ module _ (F : Frame) where
   unfoldable pub nearer : (ℕ → ℕ) → ℕ → ℕ
   nearer time x = count (λ y. ltb (time y) (time x)) (F .size)
 
-  pub timed-inside : (s : State) → Tables F s → (x : ℕ) → timeOf F s x < F .none → x < F .size
+  pub timed-inside : (s : State) → Tables F s → (x : ℕ) → costOf F s x < F .none → x < F .size
   timed-inside s z x h = ⊎-elim
-      (λ k. absurd (omega (arith, List·getD-eq-default (s .times) (F .none) {n = x} (omega (arith, z .times)))))
+      (λ k. absurd (omega (arith, List·getD-eq-default (s .costs) (F .none) {n = x} (omega (arith, z .costs)))))
       (λ k. k)
       (le-or-lt (F .size) x)
 
@@ -90,14 +90,14 @@ module _ {F : Frame} {page : ℕ → Page} {source : ℕ} (ok : Sound F page sou
       → (m : Move) → List·Memᴰ m moves → Fits F m
   goes-fits u moves goes m k = let g = ok .moves u (m .target) (m .weight) (goes m k) in (g .0, g .2)
 
-  module _ (u : ℕ) (m : Move) (s : State) (z : Tables F s) (h : timeOf F s u < F .none)
+  module _ (u : ℕ) (m : Move) (s : State) (z : Tables F s) (h : costOf F s u < F .none)
       (g : Goes F page u (m .target) (m .weight))
-      (r : Rooted (timeOf F s) (predOf s)) where
+      (r : Rooted (costOf F s) (predOf s)) where
     abbrev v : ℕ
     v = m .target
 
     abbrev sum : ℕ
-    sum = timeOf F s u + m .weight
+    sum = costOf F s u + m .weight
 
     abbrev t : State
     t = relax F ltb u m s
@@ -111,16 +111,16 @@ module _ {F : Frame} {page : ℕ → Page} {source : ℕ} (ok : Sound F page sou
     relaxed : Relaxed F u v sum s t
     relaxed = relax-relaxed F u m s z (fits .1)
 
-    mono : (y : ℕ) → timeOf F t y ≤ timeOf F s y
+    mono : (y : ℕ) → costOf F t y ≤ costOf F s y
     mono y = spread .entry y .mono
 
-    own : timeOf F t u ≡ timeOf F s u
+    own : costOf F t u ≡ costOf F s u
     own = spread .entry u .low (omega arith) .time
 
     room : sum < F .none
-    room = sum-below-none (timeOf F s) (predOf s) r u v (m .weight) h g
+    room = sum-below-none (costOf F s) (predOf s) r u v (m .weight) h g
 
-    same-root : (x : ℕ) → Same F s t x → timeOf F t x < F .none → Root F page source (timeOf F t) (predOf t) x
+    same-root : (x : ℕ) → Same F s t x → costOf F t x < F .none → Root F page source (costOf F t) (predOf t) x
     same-root x e k =
         let old = r .root x (omega (arith, e .time)) in
         record {
@@ -128,15 +128,15 @@ module _ {F : Frame} {page : ℕ → Page} {source : ℕ} (ok : Sound F page sou
           from = λ ne. let f = old .from ne in rw (e .pred, e .time) (f .0, f .1, omega (arith, mono (predOf s x)));
         }
 
-    same-near : (x : ℕ) → timeOf F t x ≡ timeOf F s x → timeOf F t x < F .none
-        → timeOf F t x ≤ nearer F (timeOf F t) x * ok .longest
+    same-near : (x : ℕ) → costOf F t x ≡ costOf F s x → costOf F t x < F .none
+        → costOf F t x ≤ nearer F (costOf F t) x * ok .longest
     same-near x e k = omega (
       arith,
       r .near x (omega arith),
-      mul-le-mul-right (ok .longest) (nearer-mono F (timeOf F s) (timeOf F t) mono x e),
+      mul-le-mul-right (ok .longest) (nearer-mono F (costOf F s) (costOf F t) mono x e),
     )
 
-    target-root : Kind F u v sum s t → timeOf F t v < F .none → Root F page source (timeOf F t) (predOf t) v
+    target-root : Kind F u v sum s t → costOf F t v < F .none → Root F page source (costOf F t) (predOf t) v
     target-root (lowered lt a b c) k = record {
       walk = rw a (onward v (m .weight) (r .root u h .walk) g);
       from = λ ne. rw (b, a, own) (m .weight, g, omega arith);
@@ -147,14 +147,14 @@ module _ {F : Frame} {page : ℕ → Page} {source : ℕ} (ok : Sound F page sou
     }
     target-root (kept le lo e) k = same-root v e k
 
-    target-near : Kind F u v sum s t → timeOf F t v < F .none → timeOf F t v ≤ nearer F (timeOf F t) v * ok .longest
+    target-near : Kind F u v sum s t → costOf F t v < F .none → costOf F t v ≤ nearer F (costOf F t) v * ok .longest
     target-near (lowered lt a b c) k =
-        let more = nearer-more F (timeOf F s) (timeOf F t) mono u v (r .inside u h) (omega (arith, fits .0)) in
+        let more = nearer-more F (costOf F s) (costOf F t) mono u v (r .inside u h) (omega (arith, fits .0)) in
         omega (arith, r .near u h, mul-le-mul-right (ok .longest) more, ok .moves u v (m .weight) g .1)
     target-near (tied e lt a b c) k = same-near v a k
     target-near (kept le lo e) k = same-near v (e .time) k
 
-    target-none : Kind F u v sum s t → F .none ≤ timeOf F t v → predOf t v ≡ noPred
+    target-none : Kind F u v sum s t → F .none ≤ costOf F t v → predOf t v ≡ noPred
     target-none (lowered lt a b c) k = absurd (omega (arith, room))
     target-none (tied e lt a b c) k = absurd (omega (arith, room))
     target-none (kept le lo e) k = e .pred ∙ r .none v (omega (arith, e .time))
@@ -162,18 +162,18 @@ module _ {F : Frame} {page : ℕ → Page} {source : ℕ} (ok : Sound F page sou
     at : (P : ℕ → Type 0) → P v → ((x : ℕ) → x ≢ v → P x) → (x : ℕ) → P x
     at P p q x = dite (ℕ-discrete x v) (λ e. rw e p) (q x)
 
-    relax-rooted : Rooted (timeOf F t) (predOf t)
+    relax-rooted : Rooted (costOf F t) (predOf t)
     relax-rooted = record {
       inside = timed-inside F t (spread .tables);
       source-time = source-same .time ∙ r .source-time;
       source-pred = source-same .pred ∙ r .source-pred;
-      root = at (λ x. timeOf F t x < F .none → Root F page source (timeOf F t) (predOf t) x)
+      root = at (λ x. costOf F t x < F .none → Root F page source (costOf F t) (predOf t) x)
           (target-root (relaxed .kind))
           (λ x ne. same-root x (relaxed .others x ne));
-      near = at (λ x. timeOf F t x < F .none → timeOf F t x ≤ nearer F (timeOf F t) x * ok .longest)
+      near = at (λ x. costOf F t x < F .none → costOf F t x ≤ nearer F (costOf F t) x * ok .longest)
           (target-near (relaxed .kind))
           (λ x ne. same-near x (relaxed .others x ne .time));
-      none = at (λ x. F .none ≤ timeOf F t x → predOf t x ≡ noPred) (target-none (relaxed .kind))
+      none = at (λ x. F .none ≤ costOf F t x → predOf t x ≡ noPred) (target-none (relaxed .kind))
           (λ x ne k. relaxed .others x ne .pred ∙ r .none x (omega (arith, relaxed .others x ne .time)));
     }
       where
@@ -182,32 +182,32 @@ module _ {F : Frame} {page : ℕ → Page} {source : ℕ} (ok : Sound F page sou
 
   pub relaxAll-rooted : (u : ℕ) (moves : List Move) (s : State)
       → ((m : Move) → List·Memᴰ m moves → Goes F page u (m .target) (m .weight))
-      → Tables F s → timeOf F s u < F .none → Rooted (timeOf F s) (predOf s)
-      → Spread F u s (relaxAll F ltb u moves s) × Rooted (timeOf F (relaxAll F ltb u moves s))
+      → Tables F s → costOf F s u < F .none → Rooted (costOf F s) (predOf s)
+      → Spread F u s (relaxAll F ltb u moves s) × Rooted (costOf F (relaxAll F ltb u moves s))
       (predOf (relaxAll F ltb u moves s))
-  relaxAll-rooted u moves s goes z h r = relaxAll-keeps F u s (λ t. Rooted (timeOf F t) (predOf t)) moves
+  relaxAll-rooted u moves s goes z h r = relaxAll-keeps F u s (λ t. Rooted (costOf F t) (predOf t)) moves
       (goes-fits u moves goes)
       (λ m t k p q. relax-rooted u m t (p .tables) (omega (arith, p .entry u .low (omega arith) .time)) (goes m k) q)
       s (spread-none F u s z) r
 
   -- All moves of u relaxed: now u's are met, and whoever's were met and kept its time still has them met.
-  module _ (u : ℕ) (s : State) (before : ℕ → Bool) (z : Tables F s) (h : timeOf F s u < F .none)
-      (l : Labels (timeOf F s) (predOf s) before) where
+  module _ (u : ℕ) (s : State) (before : ℕ → Bool) (z : Tables F s) (h : costOf F s u < F .none)
+      (l : Labels (costOf F s) (predOf s) before) where
     abbrev moves : List Move
     moves = movesOf (page (F .pageOf u)) u
 
     abbrev after : State
     after = relaxAll F ltb u moves s
 
-    both : Spread F u s after × Rooted (timeOf F after) (predOf after)
+    both : Spread F u s after × Rooted (costOf F after) (predOf after)
     both = relaxAll-rooted u moves s (λ m k. k) z h (l .rooted)
 
     pub relaxed-spread : Spread F u s after
     relaxed-spread = both .0
 
     pub relaxed-labels : (now : ℕ → Bool) → isGood (page (F .pageOf u)) ≡ true
-        → ((x : ℕ) → now x ≡ true → (x ≡ u) ⊎ ((before x ≡ true) × (timeOf F after x ≡ timeOf F s x)))
-        → Labels (timeOf F after) (predOf after) now
+        → ((x : ℕ) → now x ≡ true → (x ≡ u) ⊎ ((before x ≡ true) × (costOf F after x ≡ costOf F s x)))
+        → Labels (costOf F after) (predOf after) now
     relaxed-labels now good-page why = record {
       rooted = both .1;
       met = λ x v w e g. ⊎-elim
@@ -215,11 +215,11 @@ module _ {F : Frame} {page : ℕ → Page} {source : ℕ} (ok : Sound F page sou
             target = v;
             weight = w;
           }) (rw q at g))))
-          (λ k. rw (k .1) (met-on F u x v (timeOf F s x + w) s after (relaxed-spread .entry v) (l .met x v w (k .0) g)))
+          (λ k. rw (k .1) (met-on F u x v (costOf F s x + w) s after (relaxed-spread .entry v) (l .met x v w (k .0) g)))
           (why x e);
       timed = λ x e. ⊎-elim (λ q. rw q (omega (arith, own))) (λ k. omega (arith, k .1, l .timed x (k .0))) (why x e);
       read = λ x e. ⊎-elim (λ q. rw q good-page) (λ k. l .read x (k .0)) (why x e);
     }
       where
-        own : timeOf F after u ≡ timeOf F s u
+        own : costOf F after u ≡ costOf F s u
         own = relaxed-spread .entry u .low (omega arith) .time

@@ -6,7 +6,7 @@ use Rattle.common.specs.Pick.{pick}
 use Rattle.net.specs.declared.Choice.{Choice}
 use Rattle.net.specs.declared.Choice.the-variants.{Station, Nobody}
 use Rattle.net.specs.Net.{Move, Page, good, bad, Frame}
-use Rattle.net.specs.Search.{State, Halt, refused, isFresh, withPage, settle, markFresh, predOf, timeOf}
+use Rattle.net.specs.Search.{State, Halt, refused, isFresh, withPage, settle, markFresh, predOf, costOf}
 use Rattle.net.specs.Search.{onChoice, onPage, readFor, relaxTo, relax, relaxAll, visit, chooseOn, workTurn}
 use Rattle.net.specs.Search.{workThrough, plainVisit, dfVisit}
 use Rattle.net.proofs.Basics.Iterate.{iter-keeps}
@@ -33,14 +33,14 @@ pick-log false s t r e f = f
 
 module _ (F : Frame) (less : ℕ → ℕ → Bool) where
   relaxTo-log : (u v sum : ℕ) (s : State) → logOf (relaxTo F less u v sum s) ≡ logOf s
-  relaxTo-log u v sum s = pick-log (less sum (timeOf F s v)) _ _ s refl
-      (pick-log (eqb sum (timeOf F s v) && ltb u (predOf s v)) _ _ s refl refl)
+  relaxTo-log u v sum s = pick-log (less sum (costOf F s v)) _ _ s refl
+      (pick-log (eqb sum (costOf F s v) && ltb u (predOf s v)) _ _ s refl refl)
 
   relaxAll-log : (u : ℕ) (moves : List Move) (s : State) → logOf (relaxAll F less u moves s) ≡ logOf s
   unfolding relaxAll relax
   relaxAll-log u [] s = refl
   relaxAll-log u (m ∷ moves) s = relaxAll-log u moves (relax F less u m s) ∙ relaxTo-log u (m .target)
-      (timeOf F s u + m .weight) s
+      (costOf F s u + m .weight) s
 
   pub visit-log : (moves : ℕ → List Move) (u : ℕ) (s : State) → logOf (visit F less moves u s) ≡ logOf s
   unfolding visit

@@ -8,33 +8,33 @@ use Rattle.common.proofs.Ground.{length-set, getD-set-same, getD-set-other, ltb
 use Rattle.common.proofs.Ground.{lt-leb}
 use Rattle.common.proofs.Cases.{le-or-lt}
 use Rattle.net.specs.Net.{Frame, Move}
-use Rattle.net.specs.Search.{State, withTables, timeOf, predOf, markOf, isFresh, isSettled, relaxTo, relax}
+use Rattle.net.specs.Search.{State, withTables, costOf, predOf, markOf, isFresh, isSettled, relaxTo, relax}
 use Rattle.net.specs.Search.{relaxAll}
 use Rattle.net.proofs.Basics.Marks.{set-all, marks-settled-alike}
 
 -- The tables: an entry for each station, marks below 4, and no time above none.
 pub record TablesOf (F : Frame) (ts ps ms : List ℕ) : Type 0 where
-  pub times : length ts ≡ F .size
+  pub costs : length ts ≡ F .size
   pub preds : length ps ≡ F .size
   pub marks : length ms ≡ F .size
   pub below : (x : ℕ) → getD ms x 0 < 4
   pub capped : (x : ℕ) → getD ts x (F .none) ≤ F .none
 
 abbrev pub Tables : Frame → State → Type 0
-Tables F s = TablesOf F (s .times) (s .preds) (s .marks)
+Tables F s = TablesOf F (s .costs) (s .preds) (s .marks)
 
 -- A station's entries stay as they are, its settled flag apart.
 pub record Same (F : Frame) (s t : State) (x : ℕ) : Type 0 where
-  pub time : timeOf F t x ≡ timeOf F s x
+  pub time : costOf F t x ≡ costOf F s x
   pub pred : predOf t x ≡ predOf s x
   pub fresh : isFresh t x ≡ isFresh s x
 
 -- What a move from u to v does to v's own entries.
 pub data Kind (F : Frame) (u v sum : ℕ) (s t : State) : Type 0 where
-  lowered : sum < timeOf F s v → timeOf F t v ≡ sum → predOf t v ≡ u → isFresh t v ≡ false → Kind F u v sum s t
-  tied : sum ≡ timeOf F s v → u < predOf s v → timeOf F t v ≡ timeOf F s v → predOf t v ≡ u → isFresh t v ≡ isFresh s v
+  lowered : sum < costOf F s v → costOf F t v ≡ sum → predOf t v ≡ u → isFresh t v ≡ false → Kind F u v sum s t
+  tied : sum ≡ costOf F s v → u < predOf s v → costOf F t v ≡ costOf F s v → predOf t v ≡ u → isFresh t v ≡ isFresh s v
       → Kind F u v sum s t
-  kept : timeOf F s v ≤ sum → (sum ≡ timeOf F s v → predOf s v ≤ u) → Same F s t v → Kind F u v sum s t
+  kept : costOf F s v ≤ sum → (sum ≡ costOf F s v → predOf s v ≤ u) → Same F s t v → Kind F u v sum s t
 
 pub record Relaxed (F : Frame) (u v sum : ℕ) (s t : State) : Type 0 where
   pub kind : Kind F u v sum s t
@@ -47,7 +47,7 @@ module _ (F : Frame) where
   same-none s x = record { time = refl; pred = refl; fresh = refl }
 
   module _ (u v sum : ℕ) (s : State) (z : Tables F s)
-      (in-times : v < length (s .times)) (in-preds : v < length (s .preds)) (in-marks : v < length (s .marks)) where
+      (in-costs : v < length (s .costs)) (in-preds : v < length (s .preds)) (in-marks : v < length (s .marks)) where
     -- v's entries where the sum counts as less
     abbrev lower : State
     lower = relaxTo F (λ a b. true) u v sum s
@@ -60,31 +60,31 @@ module _ (F : Frame) where
         (λ q. rw q (marks-settled-alike (markOf lower v) (markOf s v) (rw getD-set-same (omega arith))))
         (λ ne. rw getD-set-other)
 
-    lower-relaxed : sum < timeOf F s v → Relaxed F u v sum s lower
+    lower-relaxed : sum < costOf F s v → Relaxed F u v sum s lower
     lower-relaxed lt = record {
       kind = lowered lt (rw getD-set-same) (rw getD-set-same) lower-fresh;
       others = λ x ne. record { time = rw getD-set-other; pred = rw getD-set-other; fresh = rw getD-set-other };
       settled = lower-settled;
       tables = record {
-        times = rw length-set (z .times);
+        costs = rw length-set (z .costs);
         preds = rw length-set (z .preds);
         marks = rw length-set (z .marks);
         below = λ x. set-all (λ m. m < 4) (s .marks) v x (markOf s v % 2) 0 (omega arith) (z .below x);
-        capped = λ x. set-all (λ c. c ≤ F .none) (s .times) v x sum (F .none) (omega (arith, z .capped v))
+        capped = λ x. set-all (λ c. c ≤ F .none) (s .costs) v x sum (F .none) (omega (arith, z .capped v))
             (z .capped x);
       };
     }
 
     abbrev tie : State
-    tie = withTables (s .times) (set (s .preds) v u) (s .marks) s
+    tie = withTables (s .costs) (set (s .preds) v u) (s .marks) s
 
-    tie-relaxed : sum ≡ timeOf F s v → u < predOf s v → Relaxed F u v sum s tie
+    tie-relaxed : sum ≡ costOf F s v → u < predOf s v → Relaxed F u v sum s tie
     tie-relaxed e lt = record {
       kind = tied e lt refl (rw getD-set-same) refl;
       others = λ x ne. record { time = refl; pred = rw getD-set-other; fresh = refl };
       settled = λ x. refl;
       tables = record {
-        times = z .times;
+        costs = z .costs;
         preds = rw length-set (z .preds);
         marks = z .marks;
         below = z .below;
@@ -92,7 +92,7 @@ module _ (F : Frame) where
       };
     }
 
-    keep-relaxed : timeOf F s v ≤ sum → (sum ≡ timeOf F s v → predOf s v ≤ u) → Relaxed F u v sum s s
+    keep-relaxed : costOf F s v ≤ sum → (sum ≡ costOf F s v → predOf s v ≤ u) → Relaxed F u v sum s s
     keep-relaxed le low = record {
       kind = kept le low (same-none s v);
       others = λ x ne. same-none s x;
@@ -101,52 +101,52 @@ module _ (F : Frame) where
     }
 
     -- by numbers, what the rule says
-    sum-less-lowers : sum < timeOf F s v → relaxTo F ltb u v sum s ≡ lower
-    sum-less-lowers lt = simp (lt-ltb sum (timeOf F s v) lt)
+    sum-less-lowers : sum < costOf F s v → relaxTo F ltb u v sum s ≡ lower
+    sum-less-lowers lt = simp (lt-ltb sum (costOf F s v) lt)
 
-    tie-changes-predecessor : sum ≡ timeOf F s v → u < predOf s v → relaxTo F ltb u v sum s ≡ tie
+    tie-changes-predecessor : sum ≡ costOf F s v → u < predOf s v → relaxTo F ltb u v sum s ≡ tie
     tie-changes-predecessor e lt = simp (
-      le-ltb sum (timeOf F s v) (omega arith),
-      eq-eqb sum (timeOf F s v) e,
+      le-ltb sum (costOf F s v) (omega arith),
+      eq-eqb sum (costOf F s v) e,
       lt-ltb u (predOf s v) lt,
     )
 
-    tie-keeps-lower : sum ≡ timeOf F s v → predOf s v ≤ u → relaxTo F ltb u v sum s ≡ s
+    tie-keeps-lower : sum ≡ costOf F s v → predOf s v ≤ u → relaxTo F ltb u v sum s ≡ s
     tie-keeps-lower e le = simp (
-      le-ltb sum (timeOf F s v) (omega arith),
-      eq-eqb sum (timeOf F s v) e,
+      le-ltb sum (costOf F s v) (omega arith),
+      eq-eqb sum (costOf F s v) e,
       le-ltb u (predOf s v) le,
     )
 
-    sum-more-keeps : timeOf F s v < sum → relaxTo F ltb u v sum s ≡ s
-    sum-more-keeps lt = simp (le-ltb sum (timeOf F s v) (omega arith), ne-eqb sum (timeOf F s v) (λ e. omega arith))
+    sum-more-keeps : costOf F s v < sum → relaxTo F ltb u v sum s ≡ s
+    sum-more-keeps lt = simp (le-ltb sum (costOf F s v) (omega arith), ne-eqb sum (costOf F s v) (λ e. omega arith))
 
     relaxTo-relaxed : Relaxed F u v sum s (relaxTo F ltb u v sum s)
     relaxTo-relaxed = ⊎-elim
         (λ le. ⊎-elim
-        (λ ge. let e : sum ≡ timeOf F s v = omega arith in
+        (λ ge. let e : sum ≡ costOf F s v = omega arith in
         ⊎-elim
         (λ low. rw (tie-keeps-lower e low) (keep-relaxed le (λ q. low)))
         (λ low. rw (tie-changes-predecessor e low) (tie-relaxed e low))
         (le-or-lt (predOf s v) u))
         (λ lt. rw (sum-more-keeps lt) (keep-relaxed le (λ q. absurd (omega arith))))
-        (le-or-lt sum (timeOf F s v)))
+        (le-or-lt sum (costOf F s v)))
         (λ lt. rw (sum-less-lowers lt) (lower-relaxed lt))
-        (le-or-lt (timeOf F s v) sum)
+        (le-or-lt (costOf F s v) sum)
 
   pub relax-relaxed : (u : ℕ) (m : Move) (s : State) → Tables F s → m .target < F .size
-      → Relaxed F u (m .target) (timeOf F s u + m .weight) s (relax F ltb u m s)
+      → Relaxed F u (m .target) (costOf F s u + m .weight) s (relax F ltb u m s)
   unfolding relax
-  relax-relaxed u m s z small = relaxTo-relaxed u (m .target) (timeOf F s u + m .weight) s z
-      (omega (arith, z .times)) (omega (arith, z .preds)) (omega (arith, z .marks))
+  relax-relaxed u m s z small = relaxTo-relaxed u (m .target) (costOf F s u + m .weight) s z
+      (omega (arith, z .costs)) (omega (arith, z .preds)) (omega (arith, z .marks))
 
 -- What relaxing moves of u does to the entries of x.
 pub record Entry (F : Frame) (u : ℕ) (s t : State) (x : ℕ) : Type 0 where
-  pub mono : timeOf F t x ≤ timeOf F s x
-  pub low : timeOf F s x ≤ timeOf F s u → Same F s t x
-  pub high : timeOf F s u < timeOf F s x → timeOf F s u < timeOf F t x
-  pub still : isFresh t x ≡ true → (isFresh s x ≡ true) × (timeOf F t x ≡ timeOf F s x)
-  pub tie : timeOf F t x ≡ timeOf F s x → predOf t x ≤ predOf s x
+  pub mono : costOf F t x ≤ costOf F s x
+  pub low : costOf F s x ≤ costOf F s u → Same F s t x
+  pub high : costOf F s u < costOf F s x → costOf F s u < costOf F t x
+  pub still : isFresh t x ≡ true → (isFresh s x ≡ true) × (costOf F t x ≡ costOf F s x)
+  pub tie : costOf F t x ≡ costOf F s x → predOf t x ≤ predOf s x
 
 pub record Spread (F : Frame) (u : ℕ) (s t : State) : Type 0 where
   pub entry : (x : ℕ) → Entry F u s t x
@@ -189,7 +189,7 @@ module _ (F : Frame) where
     tables = q .tables;
   }
 
-  kind-entry : (u v sum : ℕ) (s t : State) → timeOf F s u < sum → Kind F u v sum s t → Entry F u s t v
+  kind-entry : (u v sum : ℕ) (s t : State) → costOf F s u < sum → Kind F u v sum s t → Entry F u s t v
   kind-entry u v sum s t up (lowered lt a b c) = record {
     mono = omega arith;
     low = λ h. absurd (omega arith);
@@ -206,7 +206,7 @@ module _ (F : Frame) where
   }
   kind-entry u v sum s t up (kept le lo e) = same-entry u v s t e
 
-  spread-one : (u v sum : ℕ) (s t : State) → timeOf F s u < sum → Relaxed F u v sum s t → Spread F u s t
+  spread-one : (u v sum : ℕ) (s t : State) → costOf F s u < sum → Relaxed F u v sum s t → Spread F u s t
   spread-one u v sum s t up r = record {
     entry = λ x. dite (ℕ-discrete x v) (λ e. rw e (kind-entry u v sum s t up (r .kind)))
         (λ ne. same-entry u x s t (r .others x ne));
@@ -220,7 +220,7 @@ module _ (F : Frame) where
 
   pub relax-spread : (u : ℕ) (m : Move) (s : State) → Fits m → Tables F s → Spread F u s (relax F ltb u m s)
   relax-spread u m s fits z =
-      spread-one u (m .target) (timeOf F s u + m .weight) s (relax F ltb u m s) (omega arith)
+      spread-one u (m .target) (costOf F s u + m .weight) s (relax F ltb u m s) (omega arith)
       (relax-relaxed F u m s z (fits .1))
 
   -- the move that is relaxed last
@@ -249,20 +249,20 @@ module _ (F : Frame) where
   relaxAll-spread u moves s fits z = relaxAll-keeps u s (λ r. Unit {0}) moves fits (λ m r k p q. tt) s
       (spread-none u s z) tt .0
 
-  kind-met : (u v sum : ℕ) (s t : State) → Kind F u v sum s t → Met (timeOf F t) (predOf t) u v sum
+  kind-met : (u v sum : ℕ) (s t : State) → Kind F u v sum s t → Met (costOf F t) (predOf t) u v sum
   kind-met u v sum s t (lowered lt a b c) = (omega arith, λ e. omega arith)
   kind-met u v sum s t (tied f lt a b c) = (omega arith, λ e. omega arith)
   kind-met u v sum s t (kept le lo f) =
       (omega (arith, f .time), λ e. omega (arith, f .pred, f .time, lo (sym e ∙ f .time)))
 
-  pub met-on : (u y v sum : ℕ) (s t : State) → Entry F u s t v → Met (timeOf F s) (predOf s) y v sum
-      → Met (timeOf F t) (predOf t) y v sum
+  pub met-on : (u y v sum : ℕ) (s t : State) → Entry F u s t v → Met (costOf F s) (predOf s) y v sum
+      → Met (costOf F t) (predOf t) y v sum
   met-on u y v sum s t p m = (omega arith, λ e. omega (arith, p .tie (omega arith), m .1 (omega arith)))
 
   pub relaxAll-met : (u : ℕ) (moves : List Move) (s : State) → ((m : Move) → List·Memᴰ m moves → Fits m) → Tables F s
       → (m : Move) → List·Memᴰ m moves
-      → Met (timeOf F (relaxAll F ltb u moves s)) (predOf (relaxAll F ltb u moves s)) u (m .target)
-      (timeOf F s u + m .weight)
+      → Met (costOf F (relaxAll F ltb u moves s)) (predOf (relaxAll F ltb u moves s)) u (m .target)
+      (costOf F s u + m .weight)
   unfolding relaxAll
   relaxAll-met u [] s fits z m k = absurd (List·Memᴰ·not-nil k)
   relaxAll-met u (n ∷ moves) s fits z m k =
@@ -271,8 +271,8 @@ module _ (F : Frame) where
       let t : State = relax F ltb u n s in
       let p : Spread F u s t = relax-spread u n s here z in
       ⊎-elim
-      (λ e. rw e (met-on u u (n .target) (timeOf F s u + n .weight) t (relaxAll F ltb u moves t)
+      (λ e. rw e (met-on u u (n .target) (costOf F s u + n .weight) t (relaxAll F ltb u moves t)
       (relaxAll-spread u moves t later (p .tables) .entry (n .target))
-      (kind-met u (n .target) (timeOf F s u + n .weight) s t (relax-relaxed F u n s z (here .1) .kind))))
+      (kind-met u (n .target) (costOf F s u + n .weight) s t (relax-relaxed F u n s z (here .1) .kind))))
       (λ j. rw (p .entry u .low (omega arith) .time) at (relaxAll-met u moves t later (p .tables) m j))
       (List·Memᴰ·cases-cons k)

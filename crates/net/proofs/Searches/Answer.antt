@@ -7,7 +7,7 @@ use Rattle.common.proofs.Cases.{le-or-lt}
 use Rattle.common.specs.Numbers.{sourceMark, noPred}
 use Rattle.net.specs.declared.Choice.the-variants.{Nobody}
 use Rattle.net.specs.Net.{Page, Frame, Goes, Walk, here, onward}
-use Rattle.net.specs.Search.{State, going, timeOf, predOf, isSettled, choose, reached}
+use Rattle.net.specs.Search.{State, going, costOf, predOf, isSettled, choose, reached}
 use Rattle.net.specs.Demands.{Spells, at-source, step, LeastTimes}
 use Rattle.net.proofs.Sound.{Sound}
 use Rattle.net.proofs.Basics.Tests.{true-of}
@@ -22,45 +22,45 @@ module _ {F : Frame} {page : ℕ → Page} {source : ℕ} (ok : Sound F page sou
     nobody-left : NextIs F s Nobody
     nobody-left = rw ended at (choose-next F s (i .tables) g)
 
-    all-relaxed : (x : ℕ) → timeOf F s x < F .none → relaxed s x ≡ true
+    all-relaxed : (x : ℕ) → costOf F s x < F .none → relaxed s x ≡ true
     all-relaxed x h = i .done x (true-of (isSettled s x) (λ e. nobody-left x e h))
 
-    all-timed : {x c : ℕ} → Walk F page source x c → timeOf F s x < F .none
+    all-timed : {x c : ℕ} → Walk F page source x c → costOf F s x < F .none
     all-timed here = omega (arith, i .labels .rooted .source-time, ok .room)
     all-timed (onward {u = u} v w k e) =
-        let h : timeOf F s u < F .none = all-timed k in
+        let h : costOf F s u < F .none = all-timed k in
         omega (
           arith,
           i .labels .met u v w (all-relaxed u h) e .0,
-          sum-below-none ok (timeOf F s) (predOf s) (i .labels .rooted) u v w h e,
+          sum-below-none ok (costOf F s) (predOf s) (i .labels .rooted) u v w h e,
         )
 
     -- the predecessor's time and the move make up the time exactly
-    exact : (v : ℕ) → timeOf F s v < F .none → v ≢ source
-        → (w : ℕ) × Goes F page (predOf s v) v w × (timeOf F s (predOf s v) + w ≡ timeOf F s v)
+    exact : (v : ℕ) → costOf F s v < F .none → v ≢ source
+        → (w : ℕ) × Goes F page (predOf s v) v w × (costOf F s (predOf s v) + w ≡ costOf F s v)
     exact v h ne =
         let f = i .labels .rooted .root v h .from ne in
         let m = i .labels .met (predOf s v) v (f .0) (all-relaxed (predOf s v) (omega (arith, f .2))) (f .1) in
         (f .0, f .1, omega (arith, f .2, m .0))
 
-    spelled : (n v : ℕ) → timeOf F s v < n → timeOf F s v < F .none
-        → (k : ℕ) × (k ≤ nearer F (timeOf F s) v) × Spells F page source (s .preds) v k (timeOf F s v)
+    spelled : (n v : ℕ) → costOf F s v < n → costOf F s v < F .none
+        → (k : ℕ) × (k ≤ nearer F (costOf F s) v) × Spells F page source (s .preds) v k (costOf F s v)
     spelled zero v lt h = absurd (not-suc-le-zero lt)
     spelled (suc n) v lt h = dite (ℕ-discrete v source)
         (λ e. rw e (rw (i .labels .rooted .source-time) (0, omega arith, at-source (i .labels .rooted .source-pred))))
         (λ ne.
         let f = exact v h ne in
         let u = predOf s v in
-        let less : timeOf F s u < timeOf F s v = omega (arith, f .2, ok .moves u v (f .0) (f .1) .0) in
+        let less : costOf F s u < costOf F s v = omega (arith, f .2, ok .moves u v (f .0) (f .1) .0) in
         let before = spelled n u (omega arith) (omega arith) in
-        let fewer = nearer-more F (timeOf F s) (timeOf F s) (λ y. omega arith) u v
+        let fewer = nearer-more F (costOf F s) (costOf F s) (λ y. omega arith) u v
         (i .labels .rooted .inside u (omega arith)) less in
         (suc (before .0), omega (arith, before .1), rw (f .2) at (step v (f .0) refl (f .1) (before .2))))
 
-    pub ended-least-times : LeastTimes F page source (s .times) (s .preds) (reached F s)
+    pub ended-least-times : LeastTimes F page source (s .costs) (s .preds) (reached F s)
     unfolding reached
     ended-least-times = record {
-      sizes = (i .tables .times, i .tables .preds);
+      sizes = (i .tables .costs, i .tables .preds);
       walk = λ v h. i .labels .rooted .root v h .walk;
       least = λ v c k. ⊎-elim (λ le. le) (λ lt. absurd (omega arith))
           (walk-bound ok relaxed s i c (λ y p q. absurd (nobody-left y p q)) k);
@@ -68,12 +68,12 @@ module _ {F : Frame} {page : ℕ → Page} {source : ℕ} (ok : Sound F page sou
       pages-good = λ v c k. i .labels .read v (all-relaxed v (all-timed k));
       untimed = λ v h. (omega (arith, i .tables .capped v), i .labels .rooted .none v h);
       spells = λ v h.
-          let k = spelled (suc (timeOf F s v)) v (omega arith) h in
-          (k .0, omega (arith, k .1, nearer-below-size F (timeOf F s) v (i .labels .rooted .inside v h)), k .2);
+          let k = spelled (suc (costOf F s v)) v (omega arith) h in
+          (k .0, omega (arith, k .1, nearer-below-size F (costOf F s) v (i .labels .rooted .inside v h)), k .2);
       lowest = λ u v w ne e q. ⊎-elim
           (λ far. absurd (omega (arith, i .tables .capped v, ok .moves u v w e .0)))
           (λ near. i .labels .met u v w (all-relaxed u near) e .1 (sym q))
-          (le-or-lt (F .none) (timeOf F s u));
+          (le-or-lt (F .none) (costOf F s u));
       count = refl;
     }
 

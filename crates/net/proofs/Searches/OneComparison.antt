@@ -6,7 +6,7 @@ use Rattle.common.proofs.Ground.{List·Memᴰ·head, List·Memᴰ·tail, ℕ, _
 use Rattle.net.specs.declared.Choice.{Choice}
 use Rattle.net.specs.declared.Choice.the-variants.{Station, Nobody}
 use Rattle.net.specs.Net.{Move, Page, good, bad, Frame, Goes}
-use Rattle.net.specs.Search.{State, timeOf, predOf, isFresh, isSettled, settle, withPage, markFresh, start}
+use Rattle.net.specs.Search.{State, costOf, predOf, isFresh, isSettled, settle, withPage, markFresh, start}
 use Rattle.net.specs.Search.{onChoice, iter, onPage, readFor, relax, relaxAll, visit, chooseOn, workTurn}
 use Rattle.net.specs.Search.{workThrough, plainVisit, dfVisit, stepBy, noneOrLess}
 use Rattle.net.proofs.Sound.{Sound}
@@ -28,13 +28,13 @@ none-or-less-is-less F sum time h = by-test (ltb time (F .none)) refl
     by-test false e = sym (lt-ltb sum time (omega (arith, ltb-false time (F .none) e)))
 
 module _ (F : Frame) where
-  relax-one : (u : ℕ) (m : Move) (s : State) → timeOf F s u + m .weight < F .none
+  relax-one : (u : ℕ) (m : Move) (s : State) → costOf F s u + m .weight < F .none
       → relax F (noneOrLess F) u m s ≡ relax F ltb u m s
   unfolding relax
-  relax-one u m s h = rw (none-or-less-is-less F (timeOf F s u + m .weight) (timeOf F s (m .target)) h)
+  relax-one u m s h = rw (none-or-less-is-less F (costOf F s u + m .weight) (costOf F s (m .target)) h)
 
   relaxAll-one : (u : ℕ) (moves : List Move) (s : State) → Tables F s → ((m : Move) → List·Memᴰ m moves → Fits F m)
-      → ((m : Move) → List·Memᴰ m moves → timeOf F s u + m .weight < F .none)
+      → ((m : Move) → List·Memᴰ m moves → costOf F s u + m .weight < F .none)
       → relaxAll F (noneOrLess F) u moves s ≡ relaxAll F ltb u moves s
   unfolding relaxAll
   relaxAll-one u [] s z fits room = refl
@@ -47,16 +47,16 @@ module _ (F : Frame) where
 module _ {F : Frame} {page : ℕ → Page} {source : ℕ} (ok : Sound F page source) where
   -- all moves of u, whose page p is good
   module _ (p : ℕ) (moves : ℕ → List Move) (is : page p ≡ good moves) where
-    moves-one : (u : ℕ) (s : State) → F .pageOf u ≡ p → Tables F s → timeOf F s u < F .none
-        → Rooted ok (timeOf F s) (predOf s)
+    moves-one : (u : ℕ) (s : State) → F .pageOf u ≡ p → Tables F s → costOf F s u < F .none
+        → Rooted ok (costOf F s) (predOf s)
         → relaxAll F (noneOrLess F) u (moves u) s ≡ relaxAll F ltb u (moves u) s
     moves-one u s on z h r = relaxAll-one F u (moves u) s z (goes-fits ok u (moves u) goes)
-        (λ m k. sum-below-none ok (timeOf F s) (predOf s) r u (m .target) (m .weight) h (goes m k))
+        (λ m k. sum-below-none ok (costOf F s) (predOf s) r u (m .target) (m .weight) h (goes m k))
       where
         goes : (m : Move) → List·Memᴰ m (moves u) → Goes F page u (m .target) (m .weight)
         goes m k = rw (on, is) k
 
-    pub visit-one : (u : ℕ) (s : State) → Ready ok s → F .pageOf u ≡ p → timeOf F s u < F .none
+    pub visit-one : (u : ℕ) (s : State) → Ready ok s → F .pageOf u ≡ p → costOf F s u < F .none
         → visit F (noneOrLess F) moves u s ≡ visit F ltb moves u s
     unfolding visit
     visit-one u s r on h = moves-one u (markFresh u s) on (markFresh-tables F u s (r .tables)) h (r .labels .rooted)

@@ -5,7 +5,7 @@ use Rattle.common.proofs.Ground.{[], _∷_, _++_, ℕ, suc, _≤_, _<_, arith, 
 use Rattle.net.specs.declared.Choice.{Choice}
 use Rattle.net.specs.declared.Choice.the-variants.{Station, Nobody}
 use Rattle.net.specs.Net.{Page, good, bad, Frame, isGood, count}
-use Rattle.net.specs.Search.{State, Halt, going, refused, timeOf, isSettled, settle, start, choose}
+use Rattle.net.specs.Search.{State, Halt, going, refused, costOf, isSettled, settle, start, choose}
 use Rattle.net.specs.Search.{iter, stepBy}
 use Rattle.net.specs.Demands.{RefusedPage}
 use Rattle.net.proofs.Sound.{Sound}
@@ -76,7 +76,7 @@ module _ {F : Frame} {page : ℕ → Page} {source : ℕ} (ok : Sound F page sou
           let eo : offset ≡ offset′ = cc in (
             record {
               station = u;
-              cost = timeOf F s u;
+              cost = costOf F s u;
               walk = i .labels .rooted .root u (n .timed) .walk;
               on = ep;
               why = rw (← ep, ← en, ← eo) e;

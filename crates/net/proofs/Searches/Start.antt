@@ -4,7 +4,7 @@ use Rattle.common.proofs.Ground.{_≡_, refl, sym, _∙_, Bool, false, true≢f
 use Rattle.common.proofs.Ground.{length, set, replicate, length-set, length-replicate, getD-set-same, getD-set-other}
 use Rattle.common.specs.Numbers.{sourceMark, noPred}
 use Rattle.net.specs.Net.{Page, Frame, here}
-use Rattle.net.specs.Search.{State, markOf, timeOf, predOf, isFresh, isSettled, start}
+use Rattle.net.specs.Search.{State, markOf, costOf, predOf, isFresh, isSettled, start}
 use Rattle.net.proofs.Sound.{Sound}
 use Rattle.net.proofs.Basics.Marks.{getD-replicate-same}
 use Rattle.net.proofs.Relaxing.Relax.{Tables}
@@ -12,7 +12,7 @@ use Rattle.net.proofs.Relaxing.Labels.{Rooted, timed-inside}
 use Rattle.net.proofs.Steps.Invariant.{Inv}
 
 module _ {F : Frame} {page : ℕ → Page} {source : ℕ} (ok : Sound F page source) where
-  start-time : timeOf F (start F source) source ≡ 0
+  start-time : costOf F (start F source) source ≡ 0
   unfolding start
   start-time =
       let inside : source < length (replicate (F .size) (F .none)) = omega (
@@ -22,11 +22,11 @@ module _ {F : Frame} {page : ℕ → Page} {source : ℕ} (ok : Sound F page sou
       ) in
       rw getD-set-same
 
-  start-other-time : (x : ℕ) → x ≢ source → timeOf F (start F source) x ≡ F .none
+  start-other-time : (x : ℕ) → x ≢ source → costOf F (start F source) x ≡ F .none
   unfolding start
   start-other-time x ne = rw getD-set-other (getD-replicate-same (F .size) x (F .none))
 
-  pub start-timed : (x : ℕ) → timeOf F (start F source) x < F .none → x ≡ source
+  pub start-timed : (x : ℕ) → costOf F (start F source) x < F .none → x ≡ source
   start-timed x h = dite (ℕ-discrete x source) (λ e. e) (λ ne. absurd (omega (arith, start-other-time x ne)))
 
   start-pred : predOf (start F source) source ≡ sourceMark
@@ -56,7 +56,7 @@ module _ {F : Frame} {page : ℕ → Page} {source : ℕ} (ok : Sound F page sou
   pub start-tables : Tables F (start F source)
   unfolding start
   start-tables = record {
-    times = length-set (replicate (F .size) (F .none)) source 0 ∙ length-replicate (F .size) (F .none);
+    costs = length-set (replicate (F .size) (F .none)) source 0 ∙ length-replicate (F .size) (F .none);
     preds = length-set (replicate (F .size) noPred) source sourceMark ∙ length-replicate (F .size) noPred;
     marks = length-replicate (F .size) 0;
     below = λ x. rw (getD-replicate-same {A = ℕ} (F .size) x 0) (omega arith);
@@ -64,7 +64,7 @@ module _ {F : Frame} {page : ℕ → Page} {source : ℕ} (ok : Sound F page sou
         (λ ne. omega (arith, start-other-time x ne));
   }
 
-  pub start-rooted : Rooted ok (timeOf F (start F source)) (predOf (start F source))
+  pub start-rooted : Rooted ok (costOf F (start F source)) (predOf (start F source))
   start-rooted = record {
     inside = timed-inside F (start F source) start-tables;
     source-time = start-time;

@@ -7,7 +7,7 @@ use Rattle.common.proofs.Cases.{le-or-lt}
 use Rattle.net.specs.declared.Choice.{Choice}
 use Rattle.net.specs.declared.Choice.the-variants.{Station, Nobody}
 use Rattle.net.specs.Net.{Page, Frame, isGood, Walk, here, onward}
-use Rattle.net.specs.Search.{State, timeOf, isSettled}
+use Rattle.net.specs.Search.{State, costOf, isSettled}
 use Rattle.net.proofs.Sound.{Sound}
 use Rattle.net.proofs.Basics.Tests.{false-of}
 use Rattle.net.proofs.Steps.Choose.{Next, NextIs}
@@ -24,14 +24,14 @@ least-cost-one F page source v c d a b = omega (arith, a .least d (b .walk), b .
 
 module _ {F : Frame} {page : ℕ → Page} {source : ℕ} (ok : Sound F page source) where
   pub walk-bound : (relaxed : State → ℕ → Bool) (s : State) → Inv ok relaxed s → (T : ℕ)
-      → ((x : ℕ) → isSettled s x ≡ false → timeOf F s x < F .none → T ≤ timeOf F s x)
-      → {x c : ℕ} → Walk F page source x c → (timeOf F s x ≤ c) ⊎ (T < c)
+      → ((x : ℕ) → isSettled s x ≡ false → costOf F s x < F .none → T ≤ costOf F s x)
+      → {x c : ℕ} → Walk F page source x c → (costOf F s x ≤ c) ⊎ (T < c)
   walk-bound relaxed s i T floor here = inl (omega (arith, i .labels .rooted .source-time))
   walk-bound relaxed s i T floor (onward {u = u} {c = c} v w k g) = ⊎-elim (λ le. by-relaxed (relaxed s u) refl le)
       (λ lt. inr (omega arith))
       (walk-bound relaxed s i T floor k)
     where
-      by-relaxed : (b : Bool) → relaxed s u ≡ b → timeOf F s u ≤ c → (timeOf F s v ≤ c + w) ⊎ (T < c + w)
+      by-relaxed : (b : Bool) → relaxed s u ≡ b → costOf F s u ≤ c → (costOf F s v ≤ c + w) ⊎ (T < c + w)
       by-relaxed true e le = inl (omega (arith, i .labels .met u v w e g .0))
       by-relaxed false e le = ⊎-elim
           (λ far. inl (omega (arith, i .tables .capped v)))
@@ -40,33 +40,33 @@ module _ {F : Frame} {page : ℕ → Page} {source : ℕ} (ok : Sound F page sou
             floor u (false-of (isSettled s u) (λ d. true≢false (sym (i .done u d) ∙ e))) near,
             ok .moves u v w g .0,
           )))
-          (le-or-lt (F .none) (timeOf F s u))
+          (le-or-lt (F .none) (costOf F s u))
 
   module _ (relaxed : State → ℕ → Bool) (s : State) (i : Inv ok relaxed s) (u : ℕ) (n : Next F s u) where
     -- whoever is settled or is next has its least cost
-    least-by : (x : ℕ) → timeOf F s x ≤ timeOf F s u → LeastCost F page source x (timeOf F s x)
+    least-by : (x : ℕ) → costOf F s x ≤ costOf F s u → LeastCost F page source x (costOf F s x)
     least-by x le = record {
       walk = i .labels .rooted .root x (omega (arith, n .timed)) .walk;
       least = λ d k. ⊎-elim (λ h. h) (λ h. omega arith)
-          (walk-bound relaxed s i (timeOf F s u) (λ y p q. n .first y p q .low) k);
+          (walk-bound relaxed s i (costOf F s u) (λ y p q. n .first y p q .low) k);
     }
 
-    pub next-least : LeastCost F page source u (timeOf F s u)
+    pub next-least : LeastCost F page source u (costOf F s u)
     next-least = least-by u (omega arith)
 
-    pub settled-least : (x : ℕ) → isSettled s x ≡ true → LeastCost F page source x (timeOf F s x)
+    pub settled-least : (x : ℕ) → isSettled s x ≡ true → LeastCost F page source x (costOf F s x)
     settled-least x e = least-by x (i .order x u e (n .pending) (n .timed) .low)
 
     -- of all stations on bad pages, u comes first if it is one
     pub first-bad : (x d : ℕ) → Walk F page source x d → isGood (page (F .pageOf x)) ≡ false
-        → (timeOf F s u ≤ d) × (d ≤ timeOf F s u → u ≤ x)
+        → (costOf F s u ≤ d) × (d ≤ costOf F s u → u ≤ x)
     first-bad x d k f = ⊎-elim
         (λ le. ⊎-elim
         (λ far. let t = n .timed in (omega arith, λ h. absurd (omega arith)))
         (λ near. let b = n .first x unsettled near in (omega arith, λ h. b .tie (omega arith)))
-        (le-or-lt (F .none) (timeOf F s x)))
+        (le-or-lt (F .none) (costOf F s x)))
         (λ lt. (omega arith, λ h. absurd (omega arith)))
-        (walk-bound relaxed s i (timeOf F s u) (λ y a b. n .first y a b .low) k)
+        (walk-bound relaxed s i (costOf F s u) (λ y a b. n .first y a b .low) k)
       where
         unsettled : isSettled s x ≡ false
         unsettled = false-of (isSettled s x) (λ e. true≢false (sym (i .labels .read x (i .done x e)) ∙ f))
@@ -78,16 +78,16 @@ module _ {F : Frame} {page : ℕ → Page} {source : ℕ} (ok : Sound F page sou
     never-alone u n none = ⊎-elim
         (λ le. none u (same u ∙ n .pending) (omega (arith, n .timed)))
         (λ lt. omega arith)
-        (walk-bound other t j (timeOf F s u) (λ x p q. absurd (none x p q))
+        (walk-bound other t j (costOf F s u) (λ x p q. absurd (none x p q))
         (i .labels .rooted .root u (n .timed) .walk))
 
     no-later : (u v : ℕ) → Next F s u → Next F t v
-        → (timeOf F t v ≤ timeOf F s u) × (timeOf F s u ≤ timeOf F t v → v ≤ u)
+        → (costOf F t v ≤ costOf F s u) × (costOf F s u ≤ costOf F t v → v ≤ u)
     no-later u v n m = ⊎-elim
         (λ le. let b = m .first u (same u ∙ n .pending) (omega (arith, n .timed)) in
         (omega arith, λ h. b .tie (omega arith)))
         (λ lt. (omega arith, λ h. absurd (omega arith)))
-        (walk-bound other t j (timeOf F t v) (λ x p q. m .first x p q .low)
+        (walk-bound other t j (costOf F t v) (λ x p q. m .first x p q .low)
         (i .labels .rooted .root u (n .timed) .walk))
 
   pub same-next : (one other : State → ℕ → Bool) (s t : State) → Inv ok one s → Inv ok other t

@@ -5,7 +5,7 @@ use Rattle.common.proofs.Ground.{_≡_, refl, sym, _∙_, Bool, true, false, _�
 use Rattle.common.proofs.Ground.{_≤_, _<_, arith, ℕ-discrete, length-set}
 use Rattle.common.proofs.Cases.{le-or-lt}
 use Rattle.net.specs.Net.{Page, Frame}
-use Rattle.net.specs.Search.{State, markOf, timeOf, predOf, isFresh, isSettled, settle}
+use Rattle.net.specs.Search.{State, markOf, costOf, predOf, isFresh, isSettled, settle}
 use Rattle.net.proofs.Sound.{Sound}
 use Rattle.net.proofs.Basics.Least.{Before}
 use Rattle.net.proofs.Basics.Marks.{set-all, settle-settles, settle-other}
@@ -15,10 +15,10 @@ use Rattle.net.proofs.Steps.Choose.{Next}
 
 -- From s to t nothing happened to station x at T or earlier.
 pub record Above (F : Frame) (T : ℕ) (s t : State) (x : ℕ) : Type 0 where
-  pub mono : timeOf F t x ≤ timeOf F s x
-  pub time : timeOf F s x ≤ T → timeOf F t x ≡ timeOf F s x
-  pub fresh : timeOf F s x ≤ T → isFresh s x ≡ true → isFresh t x ≡ true
-  pub high : T < timeOf F s x → T < timeOf F t x
+  pub mono : costOf F t x ≤ costOf F s x
+  pub time : costOf F s x ≤ T → costOf F t x ≡ costOf F s x
+  pub fresh : costOf F s x ≤ T → isFresh s x ≡ true → isFresh t x ≡ true
+  pub high : T < costOf F s x → T < costOf F t x
 
 module _ (F : Frame) (T : ℕ) where
   pub above-none : (s : State) (x : ℕ) → Above F T s s x
@@ -33,7 +33,7 @@ module _ (F : Frame) (T : ℕ) where
   }
 
   -- moves relaxed from a station at T or later
-  pub spread-above : (u : ℕ) (s t : State) → T ≤ timeOf F s u → Spread F u s t → (x : ℕ) → Above F T s t x
+  pub spread-above : (u : ℕ) (s t : State) → T ≤ costOf F s u → Spread F u s t → (x : ℕ) → Above F T s t x
   spread-above u s t le p x =
       let e = p .entry x in
       record {
@@ -41,18 +41,18 @@ module _ (F : Frame) (T : ℕ) where
         time = λ h. e .low (omega arith) .time;
         fresh = λ h f. e .low (omega arith) .fresh ∙ f;
         high = λ h. ⊎-elim (λ k. omega (arith, e .low k .time)) (λ k. omega (arith, e .high k))
-            (le-or-lt (timeOf F s x) (timeOf F s u));
+            (le-or-lt (costOf F s x) (costOf F s u));
       }
 
 module _ (F : Frame) where
   -- settled stations come before the others that have a time
   abbrev pub Ordered : State → Type 0
-  Ordered s = (x y : ℕ) → isSettled s x ≡ true → isSettled s y ≡ false → timeOf F s y < F .none
-      → Before (timeOf F s) x y
+  Ordered s = (x y : ℕ) → isSettled s x ≡ true → isSettled s y ≡ false → costOf F s y < F .none
+      → Before (costOf F s) x y
 
   pub settle-tables : (u : ℕ) (s : State) → Tables F s → Tables F (settle u s)
   settle-tables u s z = record {
-    times = z .times;
+    costs = z .costs;
     preds = z .preds;
     marks = length-set (s .marks) u (markOf s u / 2 * 2 + 1) ∙ z .marks;
     below = λ x. set-all (λ m. m < 4) (s .marks) u x (markOf s u / 2 * 2 + 1) 0 (omega (arith, z .below u))
@@ -80,21 +80,21 @@ module _ (F : Frame) where
 module _ {F : Frame} {page : ℕ → Page} {source : ℕ} (ok : Sound F page source) (relaxed : State → ℕ → Bool) where
   pub record Inv (s : State) : Type 0 where
     pub tables : Tables F s
-    pub labels : Labels ok (timeOf F s) (predOf s) (relaxed s)
+    pub labels : Labels ok (costOf F s) (predOf s) (relaxed s)
     pub done : (x : ℕ) → isSettled s x ≡ true → relaxed s x ≡ true
     pub order : Ordered F s
 
   -- u is settled, and what else a step does happens at u's time or later
   module _ (s : State) (i : Inv s) (u : ℕ) (n : Next F s u) (t : State)
       (settled : (x : ℕ) → isSettled t x ≡ isSettled (settle u s) x) (above : (x : ℕ)
-      → Above F (timeOf F s u) s t x) where
+      → Above F (costOf F s u) s t x) where
     -- nobody settled is later than u
-    pub settled-by : (x : ℕ) → isSettled t x ≡ true → timeOf F s x ≤ timeOf F s u
+    pub settled-by : (x : ℕ) → isSettled t x ≡ true → costOf F s x ≤ costOf F s u
     settled-by x e = ⊎-elim (λ q. rw q (omega arith)) (λ k. i .order x u k (n .pending) (n .timed) .low)
         (settled-cases F s (i .tables) u n x (sym (settled x) ∙ e))
 
-    before-y : (x y : ℕ) → isSettled t x ≡ true → isSettled t y ≡ false → timeOf F s y < F .none
-        → Before (timeOf F s) x y
+    before-y : (x y : ℕ) → isSettled t x ≡ true → isSettled t y ≡ false → costOf F s y < F .none
+        → Before (costOf F s) x y
     before-y x y sx sy h =
         let open-y = unsettled-before F s (i .tables) u n y (sym (settled y) ∙ sy) in
         ⊎-elim (λ q. rw q (n .first y open-y h)) (λ k. i .order x y k open-y h)
@@ -109,8 +109,8 @@ module _ {F : Frame} {page : ℕ → Page} {source : ℕ} (ok : Sound F page sou
         let b = before-y x y sx sy (omega arith) in
         record { low = omega arith; tie = λ g. b .tie (omega arith) })
         (λ k. let l = above y .high k in record { low = omega arith; tie = λ g. absurd (omega arith) })
-        (le-or-lt (timeOf F s y) (timeOf F s u))
+        (le-or-lt (costOf F s y) (costOf F s u))
 
-    pub inv-after : Tables F t → Labels ok (timeOf F t) (predOf t) (relaxed t)
+    pub inv-after : Tables F t → Labels ok (costOf F t) (predOf t) (relaxed t)
         → ((x : ℕ) → isSettled t x ≡ true → relaxed t x ≡ true) → Inv t
     inv-after z l d = record { tables = z; labels = l; done = d; order = ordered-after }

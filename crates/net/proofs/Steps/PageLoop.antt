@@ -8,7 +8,7 @@ use Rattle.common.proofs.Cases.{le-or-lt}
 use Rattle.net.specs.declared.Choice.{Choice}
 use Rattle.net.specs.declared.Choice.the-variants.{Station, Nobody}
 use Rattle.net.specs.Net.{Move, Page, good, Frame, isGood, movesOf, count}
-use Rattle.net.specs.Search.{State, timeOf, predOf, markOf, isFresh, isSettled, markFresh, iter}
+use Rattle.net.specs.Search.{State, costOf, predOf, markOf, isFresh, isSettled, markFresh, iter}
 use Rattle.net.specs.Search.{relaxAll, visit, chooseOn, workTurn, workThrough}
 use Rattle.net.proofs.Sound.{Sound}
 use Rattle.net.proofs.Basics.Tests.{and-left, and-right, and-true, false-of}
@@ -26,7 +26,7 @@ stationsOn F p = count (λ y. eqb (F .pageOf y) p) (F .size)
 
 pub markFresh-tables : (F : Frame) (u : ℕ) (s : State) → Tables F s → Tables F (markFresh u s)
 markFresh-tables F u s z = record {
-  times = z .times;
+  costs = z .costs;
   preds = z .preds;
   marks = length-set (s .marks) u (markOf s u % 2 + 2) ∙ z .marks;
   below = λ x. set-all (λ m. m < 4) (s .marks) u x (markOf s u % 2 + 2) 0 (omega arith) (z .below x);
@@ -37,12 +37,12 @@ module _ {F : Frame} {page : ℕ → Page} {source : ℕ} (ok : Sound F page sou
   -- what holds between visits
   pub record Ready (s : State) : Type 0 where
     pub tables : Tables F s
-    pub labels : Labels ok (timeOf F s) (predOf s) (isFresh s)
+    pub labels : Labels ok (costOf F s) (predOf s) (isFresh s)
 
   -- what a visit to u comes to
   pub record Visited (u : ℕ) (s t : State) : Type 0 where
     pub ready : Ready t
-    pub above : (T : ℕ) → T ≤ timeOf F s u → (x : ℕ) → Above F T s t x
+    pub above : (T : ℕ) → T ≤ costOf F s u → (x : ℕ) → Above F T s t x
     pub own : isFresh t u ≡ true
     pub settled : (x : ℕ) → isSettled t x ≡ isSettled s x
 
@@ -52,7 +52,7 @@ module _ {F : Frame} {page : ℕ → Page} {source : ℕ} (ok : Sound F page sou
     pub above : (x : ℕ) → Above F T s t x
     pub settled : (x : ℕ) → isSettled t x ≡ isSettled s x
 
-  module _ (u : ℕ) (s : State) (r : Ready s) (small : u < F .size) (h : timeOf F s u < F .none) where
+  module _ (u : ℕ) (s : State) (r : Ready s) (small : u < F .size) (h : costOf F s u < F .none) where
     abbrev marked : State
     marked = markFresh u s
 
@@ -66,7 +66,7 @@ module _ {F : Frame} {page : ℕ → Page} {source : ℕ} (ok : Sound F page sou
     spread = relaxed-spread ok u marked (isFresh s) (markFresh-tables F u s (r .tables)) h (r .labels)
 
     still-fresh : (x : ℕ) → isFresh after x ≡ true
-        → (x ≡ u) ⊎ ((isFresh s x ≡ true) × (timeOf F after x ≡ timeOf F s x))
+        → (x ≡ u) ⊎ ((isFresh s x ≡ true) × (costOf F after x ≡ costOf F s x))
     still-fresh x e =
         let k = spread .entry x .still e in
         dite (ℕ-discrete x u) (λ q. inl q) (λ ne. inr (sym (markFresh-other s u in-marks x ne) ∙ k .0, k .1))
@@ -75,7 +75,7 @@ module _ {F : Frame} {page : ℕ → Page} {source : ℕ} (ok : Sound F page sou
     fresh-marked x f = dite (ℕ-discrete x u) (λ q. rw q (markFresh-own s u in-marks))
         (λ ne. markFresh-other s u in-marks x ne ∙ f)
 
-    visited-above : (T : ℕ) → T ≤ timeOf F s u → (x : ℕ) → Above F T s after x
+    visited-above : (T : ℕ) → T ≤ costOf F s u → (x : ℕ) → Above F T s after x
     visited-above T le x =
         let a = spread-above F T u marked after le spread x in
         record { mono = a .mono; time = a .time; fresh = λ l f. a .fresh l (fresh-marked x f); high = a .high }
@@ -93,7 +93,7 @@ module _ {F : Frame} {page : ℕ → Page} {source : ℕ} (ok : Sound F page sou
     }
 
   module _ (p : ℕ) (moves : ℕ → List Move) (is : page p ≡ good moves) where
-    pub visited : (u : ℕ) (s : State) → Ready s → u < F .size → timeOf F s u < F .none → F .pageOf u ≡ p
+    pub visited : (u : ℕ) (s : State) → Ready s → u < F .size → costOf F s u < F .none → F .pageOf u ≡ p
         → Visited u s (visit F ltb moves u s)
     unfolding visit
     visited u s r small h on = rw same-moves at (relaxed-visited u s r small h (rw (on, is)))
@@ -124,7 +124,7 @@ module _ {F : Frame} {page : ℕ → Page} {source : ℕ} (ok : Sound F page sou
 
     -- the page's stale stations that have a time are at T or later
     abbrev pub FloorOn : ℕ → State → Type 0
-    FloorOn T r = (y : ℕ) → F .pageOf y ≡ p → isFresh r y ≡ false → timeOf F r y < F .none → T ≤ timeOf F r y
+    FloorOn T r = (y : ℕ) → F .pageOf y ≡ p → isFresh r y ≡ false → costOf F r y < F .none → T ≤ costOf F r y
 
     pub floor-after : (T : ℕ) (s t : State) → ((x : ℕ) → Above F T s t x) → T < F .none → FloorOn T s → FloorOn T t
     floor-after T s t above lt floor x on f h = ⊎-elim
@@ -134,7 +134,7 @@ module _ {F : Frame} {page : ℕ → Page} {source : ℕ} (ok : Sound F page sou
           floor x on (false-of (isFresh s x) (λ g. true≢false (sym (above x .fresh k g) ∙ f))) (omega arith),
         ))
         (λ k. omega (arith, above x .high k))
-        (le-or-lt (timeOf F s x) T)
+        (le-or-lt (costOf F s x) T)
 
     -- all that the loop does happens at T or later
     pub loop-after : (T n : ℕ) (s : State) → Ready s → T < F .none → FloorOn T s → After T s (iter turn n s)
@@ -151,7 +151,7 @@ module _ {F : Frame} {page : ℕ → Page} {source : ℕ} (ok : Sound F page sou
 
     -- of the page's stations: fresh, and no later than T
     doneBy : ℕ → State → ℕ → Bool
-    doneBy T r y = eqb (F .pageOf y) p && (isFresh r y && leb (timeOf F r y) T)
+    doneBy T r y = eqb (F .pageOf y) p && (isFresh r y && leb (costOf F r y) T)
 
     abbrev stations : ℕ
     stations = stationsOn F p
@@ -161,7 +161,7 @@ module _ {F : Frame} {page : ℕ → Page} {source : ℕ} (ok : Sound F page sou
       next = visit F ltb moves x r
 
       now : ℕ
-      now = timeOf F r x
+      now = costOf F r x
 
       v : Visited x r next
       v = visited x r ready (m .small) (m .timed) (m .on)
@@ -177,27 +177,27 @@ module _ {F : Frame} {page : ℕ → Page} {source : ℕ} (ok : Sound F page sou
       done-still : (y : ℕ) → y < F .size → doneBy T r y ≡ true → doneBy now next y ≡ true
       unfolding doneBy now
       done-still y l e =
-          let on = and-left (eqb (F .pageOf y) p) (isFresh r y && leb (timeOf F r y) T) e in
-          let both = and-right (eqb (F .pageOf y) p) (isFresh r y && leb (timeOf F r y) T) e in
-          let fresh = and-left (isFresh r y) (leb (timeOf F r y) T) both in
-          let by = leb-true (timeOf F r y) T (and-right (isFresh r y) (leb (timeOf F r y) T) both) in
+          let on = and-left (eqb (F .pageOf y) p) (isFresh r y && leb (costOf F r y) T) e in
+          let both = and-right (eqb (F .pageOf y) p) (isFresh r y && leb (costOf F r y) T) e in
+          let fresh = and-left (isFresh r y) (leb (costOf F r y) T) both in
+          let by = leb-true (costOf F r y) T (and-right (isFresh r y) (leb (costOf F r y) T) both) in
           let above = v .above now (omega arith) y in
-          and-true (eqb (F .pageOf y) p) (isFresh next y && leb (timeOf F next y) now) on
-          (and-true (isFresh next y) (leb (timeOf F next y) now) (above .fresh (omega (arith, later)) fresh)
-          (le-leb (timeOf F next y) now (omega (arith, later, above .mono))))
+          and-true (eqb (F .pageOf y) p) (isFresh next y && leb (costOf F next y) now) on
+          (and-true (isFresh next y) (leb (costOf F next y) now) (above .fresh (omega (arith, later)) fresh)
+          (le-leb (costOf F next y) now (omega (arith, later, above .mono))))
 
       done-now : doneBy now next x ≡ true
       unfolding doneBy now
-      done-now = and-true (eqb (F .pageOf x) p) (isFresh next x && leb (timeOf F next x) now)
+      done-now = and-true (eqb (F .pageOf x) p) (isFresh next x && leb (costOf F next x) now)
           (eq-eqb (F .pageOf x) p (m .on))
-          (and-true (isFresh next x) (leb (timeOf F next x) now) (v .own)
-          (le-leb (timeOf F next x) now (v .above now (omega arith) x .mono)))
+          (and-true (isFresh next x) (leb (costOf F next x) now) (v .own)
+          (le-leb (costOf F next x) now (v .above now (omega arith) x .mono)))
 
       not-done : doneBy T r x ≡ false
       unfolding doneBy
       not-done = false-of (doneBy T r x) (λ e. true≢false
-          (sym (and-left (isFresh r x) (leb (timeOf F r x) T)
-          (and-right (eqb (F .pageOf x) p) (isFresh r x && leb (timeOf F r x) T) e)) ∙ m .stale))
+          (sym (and-left (isFresh r x) (leb (costOf F r x) T)
+          (and-right (eqb (F .pageOf x) p) (isFresh r x && leb (costOf F r x) T) e)) ∙ m .stale))
 
       done-more : count (doneBy T r) (F .size) < count (doneBy now next) (F .size)
       done-more = count-more (doneBy T r) (doneBy now next) (F .size) done-still x (m .small) not-done done-now
@@ -215,7 +215,7 @@ module _ {F : Frame} {page : ℕ → Page} {source : ℕ} (ok : Sound F page sou
           ready = v 0 r (t .ready) (λ y on f h. omega arith) x m .ready;
           stage = ⊎-elim
               (λ g. inl (
-                timeOf F r x,
+                costOf F r x,
                 next-floor (g .0) r (t .ready) (g .1) x m,
                 omega (arith, done-more (g .0) r (t .ready) (g .1) x m),
               ))
@@ -233,10 +233,10 @@ module _ {F : Frame} {page : ℕ → Page} {source : ℕ} (ok : Sound F page sou
         by-choice T le Nobody e n = e
         by-choice T le (Station x) e n =
             let full = count-full (doneBy T r) (λ y. eqb (F .pageOf y) p) (F .size)
-            (λ y l d. and-left (eqb (F .pageOf y) p) (isFresh r y && leb (timeOf F r y) T) d) le x (n .small)
+            (λ y l d. and-left (eqb (F .pageOf y) p) (isFresh r y && leb (costOf F r y) T) d) le x (n .small)
             (eq-eqb (F .pageOf x) p (n .on)) in
-            let fresh = and-left (isFresh r x) (leb (timeOf F r x) T)
-            (and-right (eqb (F .pageOf x) p) (isFresh r x && leb (timeOf F r x) T) full) in
+            let fresh = and-left (isFresh r x) (leb (costOf F r x) T)
+            (and-right (eqb (F .pageOf x) p) (isFresh r x && leb (costOf F r x) T) full) in
             absurd (true≢false (sym fresh ∙ n .stale))
 
     -- The loop ends within as many turns as the page has stations.

@@ -6,7 +6,7 @@ use Rattle.common.proofs.Ground.{_+_, _-_, _≤_, arith, ltb, eqb}
 use Rattle.net.specs.declared.Choice.{Choice}
 use Rattle.net.specs.declared.Choice.the-variants.{Station, Nobody}
 use Rattle.net.specs.Net.{Move, Page, good, bad, Frame, count}
-use Rattle.net.specs.Search.{State, Halt, going, withPage, timeOf, predOf, isSettled, settle, onChoice}
+use Rattle.net.specs.Search.{State, Halt, going, withPage, costOf, predOf, isSettled, settle, onChoice}
 use Rattle.net.specs.Search.{iter, onPage, readFor, visit, chooseOn, workTurn, plainVisit}
 use Rattle.net.specs.Run.{stopWaiting, turnLimit, firstWaiting, firstOn, visitOf, turnOf, pageWork}
 use Rattle.net.specs.Run.{reference, stepRun}
@@ -89,7 +89,7 @@ module _ {F : Frame} {page : ℕ → Page} {source : ℕ} (ok : Sound F page sou
   steady-tables true s h = h .tables
   steady-tables false s h = h .tables
 
-  pub steady-rooted : (df : Bool) (s : State) → Steady df s → Rooted ok (timeOf F s) (predOf s)
+  pub steady-rooted : (df : Bool) (s : State) → Steady df s → Rooted ok (costOf F s) (predOf s)
   steady-rooted true s h = h .labels .rooted
   steady-rooted false s h = h .labels .rooted
 

@@ -7,7 +7,7 @@ use Rattle.common.specs.Pick.{pick}
 use Rattle.net.specs.declared.Choice.{Choice}
 use Rattle.net.specs.declared.Choice.the-variants.{Station, Nobody}
 use Rattle.net.specs.Net.{Move, Frame}
-use Rattle.net.specs.Search.{State, Halt, going, refused, withTables, settle, markFresh, timeOf, predOf}
+use Rattle.net.specs.Search.{State, Halt, going, refused, withTables, settle, markFresh, costOf, predOf}
 use Rattle.net.specs.Search.{markOf, isFresh, start, onChoice, iter, relaxTo, relax, relaxAll, visit, chooseOn}
 use Rattle.net.specs.Search.{workTurn}
 use Rattle.net.specs.Run.{firstAt, firstWaiting}
@@ -20,7 +20,7 @@ bare [] = []
 bare (m ∷ marks) = m / 2 * 2 ∷ bare marks
 
 abbrev pub unsettle : State → State
-unsettle s = withTables (s .times) (s .preds) (bare (s .marks)) s
+unsettle s = withTables (s .costs) (s .preds) (bare (s .marks)) s
 
 bare-at : (l : List ℕ) (k : ℕ) → getD (bare l) k 0 ≡ getD l k 0 / 2 * 2
 unfolding bare
@@ -72,26 +72,26 @@ module _ (F : Frame) where
   unsettle-first s = by-halt (s .halt)
     where
       by-halt : (h : Halt) → firstAt true F h (unsettle s) ≡ firstAt true F h s
-      by-halt going = least-alike (timeOf F s) _ _ (λ v. rw (unsettle-fresh s v)) (F .size)
+      by-halt going = least-alike (costOf F s) _ _ (λ v. rw (unsettle-fresh s v)) (F .size)
       by-halt (refused number p offset) = refl
 
   unsettle-chooseOn : (p : ℕ) (s : State) → chooseOn F p (unsettle s) ≡ chooseOn F p s
   unfolding chooseOn
-  unsettle-chooseOn p s = least-alike (timeOf F s) _ _ (λ v. rw (unsettle-fresh s v)) (F .size)
+  unsettle-chooseOn p s = least-alike (costOf F s) _ _ (λ v. rw (unsettle-fresh s v)) (F .size)
 
   unsettle-relaxTo : (u v sum : ℕ) (s : State)
       → unsettle (relaxTo F ltb u v sum s) ≡ relaxTo F ltb u v sum (unsettle s)
-  unsettle-relaxTo u v sum s = unsettle-pick (ltb sum (timeOf F s v)) _ _ _ _
+  unsettle-relaxTo u v sum s = unsettle-pick (ltb sum (costOf F s v)) _ _ _ _
       (rw (bare-set (s .marks) v (markOf s v % 2) (markOf (unsettle s) v % 2)
       (rw (bare-at (s .marks) v) (omega arith))))
-      (unsettle-pick (eqb sum (timeOf F s v) && ltb u (predOf s v)) _ _ _ _ refl refl)
+      (unsettle-pick (eqb sum (costOf F s v) && ltb u (predOf s v)) _ _ _ _ refl refl)
 
   unsettle-relaxAll : (u : ℕ) (moves : List Move) (s : State)
       → unsettle (relaxAll F ltb u moves s) ≡ relaxAll F ltb u moves (unsettle s)
   unfolding relaxAll relax
   unsettle-relaxAll u [] s = refl
   unsettle-relaxAll u (m ∷ moves) s = unsettle-relaxAll u moves (relax F ltb u m s)
-      ∙ ap (relaxAll F ltb u moves) (unsettle-relaxTo u (m .target) (timeOf F s u + m .weight) s)
+      ∙ ap (relaxAll F ltb u moves) (unsettle-relaxTo u (m .target) (costOf F s u + m .weight) s)
 
   module _ (moves : ℕ → List Move) where
     pub unsettle-visit : (u : ℕ) (s : State) → unsettle (visit F ltb moves u s) ≡ visit F ltb moves u (unsettle s)

@@ -3,7 +3,7 @@
 use Rattle.common.proofs.Ground.{_≡_, refl, sym, _∙_, ap, Bool, true, false, true≢false, _⊎_, inl, inr, ⊎-elim, List}
 use Rattle.common.proofs.Ground.{[], _∷_, _++_, ℕ, arith, ltb}
 use Rattle.net.specs.Net.{Move, Page, good, bad, Frame, isGood}
-use Rattle.net.specs.Search.{State, going, timeOf, predOf, isFresh, isSettled, settle, withPage, onPage, readFor}
+use Rattle.net.specs.Search.{State, going, costOf, predOf, isFresh, isSettled, settle, withPage, onPage, readFor}
 use Rattle.net.specs.Search.{relaxAll, visit, workThrough, plainVisit, dfVisit}
 use Rattle.net.proofs.Sound.{Sound}
 use Rattle.net.proofs.Basics.Tests.{false-of}
@@ -34,9 +34,9 @@ module _ {F : Frame} {page : ℕ → Page} {source : ℕ} (ok : Sound F page sou
   -- what has been done to the tables once a good page was read
   record Worked (relaxed : State → ℕ → Bool) (u : ℕ) (s t : State) : Type 0 where
     tables : Tables F t
-    labels : Labels ok (timeOf F t) (predOf t) (relaxed t)
+    labels : Labels ok (costOf F t) (predOf t) (relaxed t)
     settled : (x : ℕ) → isSettled t x ≡ isSettled (settle u s) x
-    above : (x : ℕ) → Above F (timeOf F s u) s t x
+    above : (x : ℕ) → Above F (costOf F s u) s t x
     done : (x : ℕ) → isSettled t x ≡ true → relaxed t x ≡ true
 
   worked-inv : (relaxed : State → ℕ → Bool) (u : ℕ) (s t : State) → Inv ok relaxed s → Next F s u → Worked relaxed u s t
@@ -111,12 +111,12 @@ module _ {F : Frame} {page : ℕ → Page} {source : ℕ} (ok : Sound F page sou
     plain-spread = rw e at (relaxed-spread ok u listed (isSettled s) (settle-tables F u s (i .tables)) (n .timed)
         (i .labels))
 
-    plain-above : (x : ℕ) → Above F (timeOf F s u) s plain-after x
-    plain-above x = above-before u s (i .tables) n (timeOf F s u) plain-after x
-        (spread-above F (timeOf F s u) u listed plain-after (omega arith) plain-spread x)
+    plain-above : (x : ℕ) → Above F (costOf F s u) s plain-after x
+    plain-above x = above-before u s (i .tables) n (costOf F s u) plain-after x
+        (spread-above F (costOf F s u) u listed plain-after (omega arith) plain-spread x)
 
     settled-before : (x : ℕ) → isSettled plain-after x ≡ true
-        → (x ≡ u) ⊎ ((isSettled s x ≡ true) × (timeOf F plain-after x ≡ timeOf F s x))
+        → (x ≡ u) ⊎ ((isSettled s x ≡ true) × (costOf F plain-after x ≡ costOf F s x))
     settled-before x f = ⊎-elim inl
         (λ k. inr (
           k,
@@ -133,7 +133,7 @@ module _ {F : Frame} {page : ℕ → Page} {source : ℕ} (ok : Sound F page sou
       done = λ x f. f;
     }
       where
-        labels-now : Labels ok (timeOf F plain-after) (predOf plain-after) (isSettled plain-after)
+        labels-now : Labels ok (costOf F plain-after) (predOf plain-after) (isSettled plain-after)
         labels-now = (rw e at (relaxed-labels ok u listed (isSettled s) (settle-tables F u s (i .tables)) (n .timed)
             (i .labels) (isSettled plain-after)))
             refl settled-before
@@ -151,7 +151,7 @@ module _ {F : Frame} {page : ℕ → Page} {source : ℕ} (ok : Sound F page sou
     pub ready-u : Ready ok settled-u
     ready-u = record {
       tables = settle-tables F u s (i .tables);
-      labels = labels-fewer ok (timeOf F s) (predOf s) (isFresh s) (isFresh settled-u)
+      labels = labels-fewer ok (costOf F s) (predOf s) (isFresh s) (isFresh settled-u)
           (λ x f. sym (fresh-as-before u s (i .tables) n x) ∙ f) (i .labels);
     }
 
@@ -188,9 +188,9 @@ module _ {F : Frame} {page : ℕ → Page} {source : ℕ} (ok : Sound F page sou
       visited-u = visited ok (F .pageOf u) moves e u settled-u ready-u (n .small) (n .timed) refl
 
       -- no stale station that has a time is earlier than u
-      floor-u : FloorOn ok (F .pageOf u) moves e (timeOf F s u) (visit F ltb moves u settled-u)
-      floor-u = floor-after ok (F .pageOf u) moves e (timeOf F s u) settled-u (visit F ltb moves u settled-u)
-          (visited-u .above (timeOf F s u) (omega arith)) (n .timed)
+      floor-u : FloorOn ok (F .pageOf u) moves e (costOf F s u) (visit F ltb moves u settled-u)
+      floor-u = floor-after ok (F .pageOf u) moves e (costOf F s u) settled-u (visit F ltb moves u settled-u)
+          (visited-u .above (costOf F s u) (omega arith)) (n .timed)
           (λ y on f h. n .first y
           (false-of (isSettled s y)
           (λ k. true≢false (sym (fresh-as-before u s (i .tables) n y ∙ i .done y k) ∙ f))) h .low)
@@ -198,9 +198,9 @@ module _ {F : Frame} {page : ℕ → Page} {source : ℕ} (ok : Sound F page sou
       abbrev df-after : State
       df-after = workThrough F ltb (F .pageOf u) moves (visit F ltb moves u settled-u)
 
-      after-loop : After ok (timeOf F s u) (visit F ltb moves u settled-u) df-after
+      after-loop : After ok (costOf F s u) (visit F ltb moves u settled-u) df-after
       unfolding workThrough
-      after-loop = loop-after ok (F .pageOf u) moves e (timeOf F s u) (F .size) (visit F ltb moves u settled-u)
+      after-loop = loop-after ok (F .pageOf u) moves e (costOf F s u) (F .size) (visit F ltb moves u settled-u)
           (visited-u .ready) (n .timed) floor-u
 
       df-worked : Worked isFresh u s df-after
@@ -210,16 +210,16 @@ module _ {F : Frame} {page : ℕ → Page} {source : ℕ} (ok : Sound F page sou
         settled = λ x. after-loop .settled x ∙ visited-u .settled x;
         above = above;
         done = λ x f. ⊎-elim
-            (λ q. rw q (after-loop .above u .fresh (visited-u .above (timeOf F s u) (omega arith) u .mono)
+            (λ q. rw q (after-loop .above u .fresh (visited-u .above (costOf F s u) (omega arith) u .mono)
             (visited-u .own)))
             (λ k. above x .fresh (i .order x u k (n .pending) (n .timed) .low) (i .done x k))
             (settled-cases F s (i .tables) u n x (sym (after-loop .settled x ∙ visited-u .settled x) ∙ f));
       }
         where
-          above : (x : ℕ) → Above F (timeOf F s u) s df-after x
-          above x = above-before u s (i .tables) n (timeOf F s u) df-after x
-              (above-trans F (timeOf F s u) settled-u (visit F ltb moves u settled-u) df-after x
-              (visited-u .above (timeOf F s u) (omega arith) x) (after-loop .above x))
+          above : (x : ℕ) → Above F (costOf F s u) s df-after x
+          above x = above-before u s (i .tables) n (costOf F s u) df-after x
+              (above-trans F (costOf F s u) settled-u (visit F ltb moves u settled-u) df-after x
+              (visited-u .above (costOf F s u) (omega arith) x) (after-loop .above x))
 
   pub df-settling : Settling isFresh (dfVisit F ltb page)
   df-settling u s i g n = by-fresh (isFresh s u) refl
