@@ -6,7 +6,7 @@ use Rattle.common.specs.Pick.{pick}
 use Rattle.queue.specs.Keys.{packed}
 use Rattle.queue.specs.Queue.{Put}
 use Rattle.layout.specs.Places.{slotOf, pageAt}
-use Rattle.cells.specs.Cells.{memory, noCost, loweredKey, Relaxed}
+use Rattle.cells.specs.Cells.{memory, mostCost, loweredKey, Relaxed}
 
 -- A cell that has a cost, as document 01 has it: less cost, or equal cost and lower predecessor.
 pub cell-rule : (cost pred sum u : ℕ) → pred < 2048 → u < 2048 → min (packed cost pred) (packed sum u)
@@ -22,7 +22,7 @@ cell-rule cost pred sum u h k = go (ltb sum cost) (eqb sum cost) (ltb u pred) re
     go false false c e f g = omega (arith, ltb-false sum cost e, eqb-false sum cost f)
 
 -- Offered to nobody's cell, every sum lowers it.
-pub cell-first : (sum u : ℕ) → sum < noCost → u < 2048 → min nobody (packed sum u) ≡ packed sum u
+pub cell-first : (sum u : ℕ) → sum < mostCost → u < 2048 → min nobody (packed sum u) ≡ packed sum u
 cell-first sum u h k = omega arith
 
 -- What `offer` has by its callees, which name the key that was handed back.

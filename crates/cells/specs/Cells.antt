@@ -23,8 +23,8 @@ abbrev pub memory : List ℕ → List ℕ → List ℕ → Memory
 memory cells waiting queue = record { cells = cells; waiting = waiting; queue = queue }
 
 -- The cost in nobody's cell, above every cost.
-abbrev pub noCost : ℕ
-noCost = nobody / 2048
+abbrev pub mostCost : ℕ
+mostCost = nobody / 2048
 
 -- "If v has no time, or sum is less, [..] v is not fresh": the key by which v waits from then on, that of nobody if its
 -- cell is not lowered.

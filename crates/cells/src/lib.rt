@@ -4,10 +4,11 @@
 // a key are each a cost times 2048, plus a station. That the lesser of two cells is the rule of 01 is in
 // proofs/Cells.antt; what a search cites of a move relaxed, in proofs/Relaxed.antt.
 ghost use mathlib.Core.Path.{_≡_};
-ghost use Prim.Native.Nat.{_<_, min};
+ghost use Prim.Native.Nat.{_/_, _<_, min};
+ghost use lib.Dec.{ltb};
 ghost use lib.ListN.{length, getD, set};
 ghost use Rattle.queue.specs.Keys.{packed};
-ghost use Rattle.cells.specs.Cells.{memory, noCost, loweredKey, Relaxed, Room, PlacedAt};
+ghost use Rattle.cells.specs.Cells.{memory, mostCost, loweredKey, Relaxed, Room, PlacedAt};
 use common::NOBODY;
 use layout::places::STATIONS;
 use layout::places::page_at;
@@ -15,17 +16,42 @@ use layout::places::slot_of;
 use queue::lesser;
 use queue::lower_leaf;
 
+// A cost and a station in one number: a cell has a station's predecessor beside its cost, a key the station itself.
+fn pack(cost: u64, station: usize) -> u64
+    requires station { ⌜ station < 2048 ⌝ }
+    requires cost { ⌜ cost < mostCost ⌝ }
+    ensures value { λ r. ⌜ r ≡ packed cost station ⌝ }
+{
+    cost * (STATIONS as u64) + (station as u64)
+}
+
+// Whether `sum` is less than the cost in a cell.
+fn lowers(sum: u64, cell: u64) -> bool
+    ensures value { λ r. ⌜ r ≡ ltb sum (cell / 2048) ⌝ }
+{
+    sum < cell / (STATIONS as u64)
+}
+
 // The key by which station v waits once `sum` was offered to its cell: that of nobody where the cell is not lowered.
 fn lowered_key(cell: u64, sum: u64, v: usize) -> u64
     requires station { ⌜ v < 2048 ⌝ }
-    requires cost { ⌜ sum < noCost ⌝ }
+    requires cost { ⌜ sum < mostCost ⌝ }
     ensures value { λ r. ⌜ r ≡ loweredKey cell sum v ⌝ }
 {
-    if sum < cell / (STATIONS as u64) {
-        sum * (STATIONS as u64) + (v as u64)
+    if lowers(sum, cell) {
+        pack(sum, v)
     } else {
         NOBODY
     }
+}
+
+// The cell once `sum` was offered to it by a move from u: the lesser of itself and the cell of both.
+fn lowered_cell(cell: u64, sum: u64, u: usize) -> u64
+    requires from { ⌜ u < 2048 ⌝ }
+    requires cost { ⌜ sum < mostCost ⌝ }
+    ensures value { λ r. ⌜ r ≡ min cell (packed sum u) ⌝ }
+{
+    lesser(cell, pack(sum, u))
 }
 
 // A move leads from u to v, and by it v would cost `sum`: its cell becomes the lesser of itself and the cell of `sum`
@@ -41,7 +67,7 @@ fn relax_cell(
 ) -> u64
     requires from { ⌜ u < 2048 ⌝ }
     requires to { ⌜ v < 2048 ⌝ }
-    requires cost { ⌜ sum < noCost ⌝ }
+    requires cost { ⌜ sum < mostCost ⌝ }
     requires cell { ⌜ v < length (now cells) ⌝ }
     requires slot { ⌜ slot < length (now waiting) ⌝ }
     ensures key { λ r. ⌜ r ≡ loweredKey (getD (now (cells .entry)) v 0) sum v ⌝ }
@@ -52,7 +78,7 @@ fn relax_cell(
 {
     let old = cells[v];
     let key = lowered_key(old, sum, v);
-    cells[v] = lesser(old, sum * (STATIONS as u64) + (u as u64));
+    cells[v] = lowered_cell(old, sum, u);
     waiting[slot] = lesser(waiting[slot], key);
     key
 }
@@ -69,7 +95,7 @@ pub fn offer(
 )
     requires from { ⌜ u < 2048 ⌝ }
     requires to { ⌜ v < 2048 ⌝ }
-    requires cost { ⌜ sum < noCost ⌝ }
+    requires cost { ⌜ sum < mostCost ⌝ }
     requires room { ⌜ Room (now places) (memory (now cells) (now waiting) (now queue)) ⌝ }
     requires placed { ⌜ PlacedAt (now places) v ⌝ }
     ensures relaxed { λ r. ⌜ Relaxed (now (places .entry)) u v sum

@@ -13,7 +13,7 @@ use Rattle.image.specs.Image.{directoryOf, headingCheck, accepted}
 use Rattle.image.proofs.Heading.{formed}
 use Rattle.image.proofs.Parts.{bytes-directory}
 use Rattle.queue.proofs.Groups.{least-empty, empty-groups}
-use Rattle.cells.specs.Cells.{Memory, memory, Room, Relaxed, noCost, PlacedAt}
+use Rattle.cells.specs.Cells.{Memory, memory, Room, Relaxed, mostCost, PlacedAt}
 use Rattle.cells.proofs.Relaxed.{relaxed-room, relaxed-cell, relaxed-other, relaxed-waits, relaxed-waits-other}
 use Rattle.reference.specs.declared.Query.{Query}
 use Rattle.work.specs.Board.{Serving, frameOf, Placing, StationIs}
@@ -134,7 +134,7 @@ module _ (query : Query) (image : List ℕ) (bytes : Bytes image) (well : headin
 
   -- what the offer asks, and what it leaves
   pub begin-asks : (0 < 2048)
-      × ((query .source < 2048) × ((0 < noCost) × (Room places before × PlacedAt places (query .source))))
+      × ((query .source < 2048) × ((0 < mostCost) × (Room places before × PlacedAt places (query .source))))
   begin-asks =
       let room : Room places before = rw nobodys (empty-room (placed .size)) in
       (omega arith, (omega (arith, placed .few), (omega arith, (room, placed-at placing (query .source) inside))))

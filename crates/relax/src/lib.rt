@@ -5,7 +5,7 @@ ghost use mathlib.Core.Path.{_≡_};
 ghost use Prim.Native.Nat.{_+_, _/_, _<_, _≤_};
 ghost use lib.ListN.{length, getD};
 ghost use Rattle.layout.specs.Rows.{rowOf};
-ghost use Rattle.cells.specs.Cells.{memory, noCost, Room, PlacedAt};
+ghost use Rattle.cells.specs.Cells.{memory, mostCost, Room, PlacedAt};
 ghost use Rattle.relax.specs.Visits.{longest, Relaxing, Visited, Targets, rowsBetween, LaidOut};
 use cells::offer;
 use common::NOBODY;
@@ -28,7 +28,7 @@ fn relax_rows(
     hi: usize,
 )
     requires from { ⌜ u < 2048 ⌝ }
-    requires cost { ⌜ cost + longest < noCost ⌝ }
+    requires cost { ⌜ cost + longest < mostCost ⌝ }
     requires room { ⌜ Room (now places) (memory (now cells) (now waiting) (now queue)) ⌝ }
     requires within { ⌜ hi ≤ length (now layout) ⌝ }
     requires targets { ⌜ Targets (now places) (rowsBetween (now layout) lo hi) ⌝ }
@@ -56,7 +56,7 @@ pub fn relax_moves(
     queue: &mut [u64],
 )
     requires station { ⌜ u < 2048 ⌝ }
-    requires cost { ⌜ getD (now cells) u 0 / 2048 + longest < noCost ⌝ }
+    requires cost { ⌜ getD (now cells) u 0 / 2048 + longest < mostCost ⌝ }
     requires room { ⌜ Room (now places) (memory (now cells) (now waiting) (now queue)) ⌝ }
     requires row { ⌜ LaidOut (now places) (now layout) u ⌝ }
     ensures relaxed { λ r. ⌜ Relaxing (now (places .entry)) u (getD (now (cells .entry)) u 0 / 2048)
@@ -89,7 +89,7 @@ pub fn visit(
     queue: &mut [u64],
 )
     requires station { ⌜ u < 2048 ⌝ }
-    requires cost { ⌜ getD (now cells) u 0 / 2048 + longest < noCost ⌝ }
+    requires cost { ⌜ getD (now cells) u 0 / 2048 + longest < mostCost ⌝ }
     requires room { ⌜ Room (now places) (memory (now cells) (now waiting) (now queue)) ⌝ }
     requires placed { ⌜ PlacedAt (now places) u ⌝ }
     requires row { ⌜ LaidOut (now places) (now layout) u ⌝ }

@@ -17,7 +17,7 @@ use Rattle.layout.specs.Places.{firstSlot, slotOf, Placed}
 use Rattle.layout.specs.Rows.{entryOf, rowOf, Laid}
 use Rattle.queue.specs.Keys.{leastIn}
 use Rattle.queue.specs.Queue.{Put}
-use Rattle.cells.specs.Cells.{Memory, memory, Room, Relaxed, noCost, PlacedAt}
+use Rattle.cells.specs.Cells.{Memory, memory, Room, Relaxed, mostCost, PlacedAt}
 use Rattle.relax.specs.Visits.{Relaxing, none, more, withoutWaiting, Visited, LaidOut, Targets, longest}
 use Rattle.work.specs.Board.{leastOn, chosen, Serving, frameOf, Board}
 use Rattle.work.specs.Hand.{stateAfter, Stands, rowsOf, Hand}
@@ -131,7 +131,7 @@ module _ {q : Serving} {k p left least : ℕ} {places layout : List ℕ} {m : Me
     pub place : PlacedAt places x
     place = placed-at (h .board .placing) x inside
 
-    costs : getD (m .cells) x 0 / 2048 + longest < noCost
+    costs : getD (m .cells) x 0 / 2048 + longest < mostCost
     costs = let timed = visit-timed ok (h .in-hand) first-x in let is = cost in omega arith
 
     row : LaidOut places layout x
@@ -141,7 +141,7 @@ module _ {q : Serving} {k p left least : ℕ} {places layout : List ℕ} {m : Me
       targets = rw (laid .entries) (targets [] (h .moves x) refl);
     }
 
-    pub turn-asks : (x < 2048) × ((getD (m .cells) x 0 / 2048 + longest < noCost)
+    pub turn-asks : (x < 2048) × ((getD (m .cells) x 0 / 2048 + longest < mostCost)
         × (Room places m × (PlacedAt places x × LaidOut places layout x)))
     turn-asks = (small, (costs, (h .board .room, (place, row))))
 
@@ -177,7 +177,7 @@ module _ {q : Serving} {k p left least : ℕ} {places layout : List ℕ} {m : Me
           let slot-is : slot ≡ slotOf places x = rw (leaf .named) at (leaf .slotted) in
           rw slot-is (left-board stopped-stands (h .page) (rw slot-is at (leaf .put)))
 
-      pub last-asks : (u < 2048) × ((getD (m .cells) u 0 / 2048 + longest < noCost)
+      pub last-asks : (u < 2048) × ((getD (m .cells) u 0 / 2048 + longest < mostCost)
           × (Room places left-stopped × LaidOut places layout u))
       last-asks = rw (leaf .named) (small, (costs, (stopped-left .room, row)))
 

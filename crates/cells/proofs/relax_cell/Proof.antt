@@ -9,8 +9,8 @@ returns c =
     let a = told .before .before .before .before .args in (
       told .lowered-key .ensures,
       (
-        ap (set (now (a .cells)) (a .v)) (c .before .before .lesser .ensures),
-        ap (set (now (a .waiting)) (a .slot)) (c .lesser2 .ensures),
+        ap (set (now (a .cells)) (a .v)) (c .before .before .lowered-cell .ensures),
+        ap (set (now (a .waiting)) (a .slot)) (c .lesser .ensures),
       ),
     )
 
@@ -21,8 +21,6 @@ relax-cell-spec =
     (λ c. search needs)
     (λ c. search needs)
     (λ c κs. search needs)
-    (λ c. search needs)
-    (λ c. search needs)
     (λ c κs. search needs)
     (λ c. search needs)
     (λ c. search needs)
