@@ -1,11 +1,11 @@
 //! The baselines: Dijkstra's search as one writes it in Rust without proofs. One pass over the image checks it and
 //! collects the moves that are open to the strip; then the search runs with the standard library's heap and lazy
-//! deletion. It gives what the plain search gives: times, lowest predecessors, page list, stations reached. It comes in
-//! two grades, by how the moves are kept and what the heap compares: straightforward (a vector of moves for each
-//! station, time and station as a pair) and tuned (all moves in one vector with a range for each station, time and
-//! station in one word).
+//! deletion. It gives what the plain search gives: times, numbers of moves, lowest predecessors, page list, stations
+//! reached. It comes in two grades, by how the moves are kept and what the heap compares: straightforward (a vector of
+//! moves for each station; time, number of moves and station as a triple) and tuned (all moves in one vector with a
+//! range for each station; time, number of moves and station in one word).
 
-use outside::reference::Query;
+use outside::reference::{Query, Tables};
 use std::cmp::Reverse;
 use std::collections::BinaryHeap;
 use std::ops::Range;
@@ -143,67 +143,68 @@ impl<M: Moves> Graph<'_, M> {
     }
 }
 
-/// What the heap is ordered by: time, then station.
+/// What the heap is ordered by: time, then number of moves, then station.
 pub trait Key: Ord {
-    fn new(time: u32, station: u16) -> Self;
-    fn parts(&self) -> (u32, u16);
+    fn new(time: u32, moves: u16, station: u16) -> Self;
+    fn parts(&self) -> (u32, u16, u16);
 }
 
 /// The key as one first writes it.
-impl Key for (u32, u16) {
-    fn new(time: u32, station: u16) -> Self {
-        (time, station)
+impl Key for (u32, u16, u16) {
+    fn new(time: u32, moves: u16, station: u16) -> Self {
+        (time, moves, station)
     }
 
-    fn parts(&self) -> (u32, u16) {
+    fn parts(&self) -> (u32, u16, u16) {
         *self
     }
 }
 
-/// Both numbers in one word: quicker to compare.
+/// All three numbers in one word: quicker to compare.
 impl Key for u64 {
-    fn new(time: u32, station: u16) -> Self {
-        u64::from(time) << 16 | u64::from(station)
+    fn new(time: u32, moves: u16, station: u16) -> Self {
+        u64::from(time) << 32 | u64::from(moves) << 16 | u64::from(station)
     }
 
-    fn parts(&self) -> (u32, u16) {
-        ((self >> 16) as u32, *self as u16)
+    fn parts(&self) -> (u32, u16, u16) {
+        ((self >> 32) as u32, (self >> 16) as u16, *self as u16)
     }
 }
 
-/// Dijkstra's search from image bytes: the list's count and the number of stations reached.
+/// Dijkstra's search from image bytes: the list's count and the number of stations reached. It needs no marks.
 pub fn search<M: Moves, K: Key>(
     image: &[u8],
     Query { source, strip }: Query,
-    times: &mut [u32],
-    preds: &mut [u16],
-    list: &mut [u8],
+    Tables { times, moves, preds, list, .. }: Tables,
 ) -> Option<(u32, u32)> {
     let graph = parse::<M>(image, strip)?;
     times.fill(u32::MAX);
+    moves.fill(u16::MAX);
     preds.fill(65_535);
     times[usize::from(source)] = 0;
+    moves[usize::from(source)] = 0;
     preds[usize::from(source)] = 65_534;
     let mut count = 0;
     let mut heap = BinaryHeap::with_capacity(times.len());
-    heap.push(Reverse(K::new(0, source)));
+    heap.push(Reverse(K::new(0, 0, source)));
     while let Some(Reverse(key)) = heap.pop() {
-        let (time, station) = key.parts();
+        let (time, made, station) = key.parts();
         // Lowered since it was pushed: the lesser entry has been worked off before.
-        if time > times[usize::from(station)] {
+        if (time, made) > (times[usize::from(station)], moves[usize::from(station)]) {
             continue;
         }
         list[count] = graph.directory[usize::from(station)];
         count += 1;
         for &(target, step) in graph.moves.of(station) {
-            let sum = time + u32::from(step);
-            let before = &mut times[usize::from(target)];
-            if sum < *before {
-                *before = sum;
-                preds[usize::from(target)] = station;
-                heap.push(Reverse(K::new(sum, target)));
-            } else if sum == *before && station < preds[usize::from(target)] {
-                preds[usize::from(target)] = station;
+            let at = usize::from(target);
+            let sum = (time + u32::from(step), made + 1);
+            let before = (times[at], moves[at]);
+            if sum < before {
+                (times[at], moves[at]) = sum;
+                preds[at] = station;
+                heap.push(Reverse(K::new(sum.0, sum.1, target)));
+            } else if sum == before && station < preds[at] {
+                preds[at] = station;
             }
         }
     }

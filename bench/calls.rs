@@ -24,9 +24,10 @@ const CHECKS: &[(&str, Call)] = &[
 const PANELS: &[(&str, Call)] = &[
     ("panel", |image, source| yard::panel(image, Query { source, strip: STRIP }, 0) >= 0.0),
     ("DF search", |image, source| {
-        let (mut times, mut preds) = ([0; MOST_STATIONS], [0; MOST_STATIONS]);
+        let (mut times, mut moves, mut preds) = ([0; MOST_STATIONS], [0; MOST_STATIONS], [0; MOST_STATIONS]);
         let (mut marks, mut list) = ([0; MOST_STATIONS], [0; MOST_STATIONS]);
-        let tables = Tables { times: &mut times, preds: &mut preds, marks: &mut marks, list: &mut list };
+        let tables =
+            Tables { times: &mut times, moves: &mut moves, preds: &mut preds, marks: &mut marks, list: &mut list };
         yard::search(Search::Df, image, Query { source, strip: STRIP }, tables, &mut [0; 4]) == 0
     }),
 ];

@@ -55,6 +55,7 @@ pub trait Contestant {
 
 #[derive(Clone, Copy, PartialEq)]
 pub struct Details<'a> {
+    pub moves: &'a [u16],
     pub preds: &'a [u16],
     pub reached: u32,
     pub list: &'a [u8],
@@ -82,12 +83,8 @@ const FROM_BYTES: &[(Name, Call)] = &[
     (Name::BasePlain, |image, query, tables| engine(base::search, Search::Plain, image, query, tables)),
     #[cfg(base)]
     (Name::BaseDf, |image, query, tables| engine(base::search, Search::Df, image, query, tables)),
-    (Name::Straightforward, |image, query, Tables { times, preds, list, .. }| {
-        baseline::search::<Vec<Vec<_>>, (u32, u16)>(image, query, times, preds, list)
-    }),
-    (Name::Tuned, |image, query, Tables { times, preds, list, .. }| {
-        baseline::search::<Joined, u64>(image, query, times, preds, list)
-    }),
+    (Name::Straightforward, baseline::search::<Vec<Vec<_>>, (u32, u16, u16)>),
+    (Name::Tuned, baseline::search::<Joined, u64>),
 ];
 
 /// A search of the C interface.
@@ -108,6 +105,7 @@ fn engine(
 #[repr(C, align(4096))]
 struct Kept {
     times: [u32; MOST_STATIONS],
+    moves: [u16; MOST_STATIONS],
     preds: [u16; MOST_STATIONS],
     marks: [u8; MOST_STATIONS],
     list: [u8; MOST_STATIONS],
@@ -115,16 +113,17 @@ struct Kept {
 
 impl Kept {
     fn new() -> Box<Self> {
-        let (times, preds) = ([0; MOST_STATIONS], [0; MOST_STATIONS]);
+        let (times, moves, preds) = ([0; MOST_STATIONS], [0; MOST_STATIONS], [0; MOST_STATIONS]);
         let (marks, list) = ([0; MOST_STATIONS], [0; MOST_STATIONS]);
-        Box::new(Kept { times, preds, marks, list })
+        Box::new(Kept { times, moves, preds, marks, list })
     }
 
     /// The first entries, one for each station.
     fn tables(&mut self, stations: usize) -> Tables<'_> {
-        let Kept { times, preds, marks, list } = self;
+        let Kept { times, moves, preds, marks, list } = self;
         Tables {
             times: &mut times[..stations],
+            moves: &mut moves[..stations],
             preds: &mut preds[..stations],
             marks: &mut marks[..stations],
             list: &mut list[..stations],
@@ -158,8 +157,8 @@ impl Contestant for FromBytes<'_> {
     }
 
     fn details(&self) -> Option<Details<'_>> {
-        let preds = &self.kept.preds[..self.stations];
+        let (moves, preds) = (&self.kept.moves[..self.stations], &self.kept.preds[..self.stations]);
         let list = &self.kept.list[..self.count as usize];
-        Some(Details { preds, reached: self.reached, list })
+        Some(Details { moves, preds, reached: self.reached, list })
     }
 }

@@ -1,5 +1,6 @@
 //! The peers: Dijkstra's search of LEMON and of Boost (`lemon.cpp`, `boost.cpp`), on a graph that is made before the
-//! search is timed. They give times and predecessors of their own choice, no page list; the times are compared.
+//! search is timed. They order ways by time alone and give times and predecessors of their own choice, no numbers of
+//! moves and no page list; the times are compared.
 
 use crate::contestants::{Contestant, Details, Name, STRIP};
 use outside::maps::Map;

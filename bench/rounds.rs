@@ -87,17 +87,19 @@ fn by_name<'a>(all: &'a [Box<dyn Contestant + '_>], name: Name) -> &'a dyn Conte
     all.iter().find(|one| one.name() == name).expect("a contestant").as_ref()
 }
 
-/// A measurement counts only if all found the same: times, predecessors, stations reached, and those that make the same
-/// search the same list.
+/// A measurement counts only if all found the same: times, moves, predecessors, stations reached, and those that make
+/// the same search the same list.
 fn compare(all: &[Box<dyn Contestant + '_>]) {
     let [plain, df] = [Name::Plain, Name::Df].map(|name| by_name(all, name).details().expect("what was found"));
-    assert!(plain.preds == df.preds && plain.reached == df.reached, "plain and DF differ");
+    let alike = plain.moves == df.moves && plain.preds == df.preds && plain.reached == df.reached;
+    assert!(alike, "plain and DF differ");
     let times = by_name(all, Name::Plain).times();
     for one in all {
         let name = one.name();
         let same = if matches!(name, Name::Df | Name::BaseDf) { df } else { plain };
         assert!(one.times() == times, "{name} has other times");
-        assert!(one.details().is_none_or(|details| details == same), "{name} has other predecessors or another list");
+        let agrees = one.details().is_none_or(|details| details == same);
+        assert!(agrees, "{name} has other moves or predecessors, or another list");
     }
 }
 

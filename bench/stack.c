@@ -23,7 +23,7 @@ static uint8_t image[YARD_MAX_IMAGE_BYTES];
 static size_t image_len;
 static uint16_t source, length, station;
 static uint32_t times[YARD_MAX_STATIONS], answer[4], returned;
-static uint16_t preds[YARD_MAX_STATIONS], way[YARD_MAX_STATIONS];
+static uint16_t moves[YARD_MAX_STATIONS], preds[YARD_MAX_STATIONS], way[YARD_MAX_STATIONS];
 static uint8_t marks[YARD_MAX_STATIONS], list[YARD_MAX_STATIONS];
 static size_t preds_len, way_len;
 
@@ -39,14 +39,14 @@ static void check(void)
 
 static void plain(void)
 {
-    returned = yard_plain(image, image_len, source, length, times, YARD_MAX_STATIONS, preds, YARD_MAX_STATIONS,
-                          marks, YARD_MAX_STATIONS, list, YARD_MAX_STATIONS, answer, 4);
+    returned = yard_plain(image, image_len, source, length, times, YARD_MAX_STATIONS, moves, YARD_MAX_STATIONS,
+                          preds, YARD_MAX_STATIONS, marks, YARD_MAX_STATIONS, list, YARD_MAX_STATIONS, answer, 4);
 }
 
 static void df(void)
 {
-    returned = yard_df(image, image_len, source, length, times, YARD_MAX_STATIONS, preds, YARD_MAX_STATIONS,
-                       marks, YARD_MAX_STATIONS, list, YARD_MAX_STATIONS, answer, 4);
+    returned = yard_df(image, image_len, source, length, times, YARD_MAX_STATIONS, moves, YARD_MAX_STATIONS,
+                       preds, YARD_MAX_STATIONS, marks, YARD_MAX_STATIONS, list, YARD_MAX_STATIONS, answer, 4);
 }
 
 static void route(void)

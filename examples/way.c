@@ -1,7 +1,8 @@
 /*
  * The way from one station to another for a strip of a length in decimetres: way MAP SOURCE STATION [LENGTH]
  * Without a length, or with 0, every move is used.
- * Prints the stations on the way, its time and the number of page fetches; or "no route"; or the refusal.
+ * Prints the stations on the way, its time, the number of its moves and that of page fetches; or "no route"; or the
+ * refusal.
  * Ends with status 0 if there is a way, 1 if the search or the route was refused, 2 if the arguments are not a file
  * that can be read and two or three whole numbers from 0 to 65,535, and 3 if there is no route.
  */
@@ -11,7 +12,7 @@
 
 static uint8_t marks[YARD_MAX_STATIONS], list[YARD_MAX_STATIONS];
 static uint32_t times[YARD_MAX_STATIONS];
-static uint16_t preds[YARD_MAX_STATIONS], way[YARD_MAX_STATIONS];
+static uint16_t moves[YARD_MAX_STATIONS], preds[YARD_MAX_STATIONS], way[YARD_MAX_STATIONS];
 
 /* Prints a refusal, and the place that the answer gives for it. */
 static enum status refused(const char *call, uint32_t refusal, const uint32_t *answer)
@@ -32,7 +33,8 @@ static enum status find_way(const struct arguments *asked)
     uint32_t answer[4], pages, refusal, i;
 
     refusal = yard_df(asked->image, asked->image_len, asked->source, asked->length, times, YARD_MAX_STATIONS,
-                      preds, YARD_MAX_STATIONS, marks, YARD_MAX_STATIONS, list, YARD_MAX_STATIONS, answer, 4);
+                      moves, YARD_MAX_STATIONS, preds, YARD_MAX_STATIONS, marks, YARD_MAX_STATIONS,
+                      list, YARD_MAX_STATIONS, answer, 4);
     if (refusal != YARD_ACCEPTED)
         return refused("search", refusal, answer);
     pages = answer[0];
@@ -46,7 +48,8 @@ static enum status find_way(const struct arguments *asked)
     }
     for (i = 0; i < answer[0]; i++)
         printf("%u ", (unsigned)way[i]);
-    printf("in %u tenths of a second, %u page fetches\n", (unsigned)times[asked->station], (unsigned)pages);
+    printf("in %u tenths of a second, %u moves, %u page fetches\n", (unsigned)times[asked->station],
+           (unsigned)moves[asked->station], (unsigned)pages);
     return STATUS_FOUND;
 }
 

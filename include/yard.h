@@ -18,14 +18,14 @@
  * of one call must not overlap. No call allocates, and none keeps a pointer.
  *
  * Units: times are in tenths of a second, the length of a strip in decimetres, offsets in bytes, lengths of slices in
- * entries.
+ * entries; moves are the number of moves on a way.
  *
  * Threads: the library has no variables of its own, so that calls may run at the same time in any threads, also on the
  * same image, as long as no thread uses memory that another thread's call is writing.
  *
  * Stack: a call's stack use stays below 256 KiB. The most that was seen, in bytes, arguments included (`make stack` on
  * x86-64: full maps and damaged ones):
- *     yard_check 77,512    yard_plain 112,712    yard_df 112,712    yard_route 72    yard_panel 129,064
+ *     yard_check 77,512    yard_plain 112,760    yard_df 112,760    yard_route 72    yard_panel 133,192
  *
  * Each call but yard_panel returns 0 if accepted, else the refusal's number (1 to 18); yard_panel returns a double and
  * has no answer. Where answer has four entries or more, the first four get
@@ -46,8 +46,8 @@ extern "C" {
 #endif
 
 /* The version of this interface: MAJOR rises when programs have to change, MINOR when something is added. */
-#define YARD_VERSION_MAJOR 2
-#define YARD_VERSION_MINOR 1
+#define YARD_VERSION_MAJOR 3
+#define YARD_VERSION_MINOR 0
 
 /* The limits of a map. Read a file into YARD_MAX_IMAGE_BYTES + 1 bytes: one that is too long is then refused by 4. */
 #define YARD_MAX_STATIONS 2048
@@ -57,6 +57,7 @@ extern "C" {
 
 /* The entries of a station that was not reached, and the predecessor of the source. */
 #define YARD_NO_TIME UINT32_C(4294967295)
+#define YARD_NO_MOVES UINT16_C(65535)
 #define YARD_NO_PREDECESSOR UINT16_C(65535)
 #define YARD_SOURCE UINT16_C(65534)
 
@@ -133,30 +134,31 @@ uint32_t yard_check(const uint8_t *image, size_t image_len, uint32_t *answer, si
 
 /*
  * The two searches from a source for a strip of a length: yard_plain is Dijkstra's, yard_df fetches fewer pages or as
- * many. A move is used if it has no limit or its limit is not below the length; with a length of 0 every move is. Each
- * table needs an entry for each of the map's N stations (refusal 7), and YARD_MAX_STATIONS entries are enough for every
- * map.
+ * many. A move is used if it has no limit or its limit is not below the length; with a length of 0 every move is. Of
+ * two ways that of less time is taken and, at equal time, that of fewer moves. Each table needs an entry for each of
+ * the map's N stations (refusal 7), and YARD_MAX_STATIONS entries are enough for every map.
  *     times    the least time to each station, in tenths of a second
- *     preds    the station before it on the way, of several with that time the lowest
+ *     moves    the number of moves on the way: the fewest by which that time is reached
+ *     preds    the station before it on the way, of several with that time and number of moves the lowest
  *     marks    working bytes of the search, which hold nothing for the caller
  *     list     the pages in the order in which they were fetched, a page once for each time
- * Accepted: the first N entries of times, preds and marks are written (a station without a time has YARD_NO_TIME and
- * YARD_NO_PREDECESSOR; the source has time 0 and YARD_SOURCE; marks are 0), list holds answer[0] pages, and answer[1]
- * stations have a time. Later entries are kept.
+ * Accepted: the first N entries of times, moves, preds and marks are written (a station without a time has
+ * YARD_NO_TIME, YARD_NO_MOVES and YARD_NO_PREDECESSOR; the source has time 0, moves 0 and YARD_SOURCE; marks are 0),
+ * list holds answer[0] pages, and answer[1] stations have a time. Later entries are kept.
  * Refused by 1 to 7: every table is untouched. Refused by 8 to 14 or 18: the first N entries are as if no station had a
  * time, and list holds the answer[0] pages fetched, the bad one last.
- * Where yard_df accepts, yard_plain does too for the same length, with the same times and predecessors, and the list of
- * yard_df is that of yard_plain with some entries left out or none. Of two lengths that a search accepts, no station
- * has a lesser time for the longer one.
+ * Where yard_df accepts, yard_plain does too for the same length, with the same times, moves and predecessors, and the
+ * list of yard_df is that of yard_plain with some entries left out or none. Of two lengths that a search accepts, no
+ * station has a lesser time for the longer one, nor fewer moves where the times are equal.
  */
 uint32_t yard_plain(const uint8_t *image, size_t image_len, uint16_t source, uint16_t length,
-                    uint32_t *times, size_t times_len, uint16_t *preds, size_t preds_len,
-                    uint8_t *marks, size_t marks_len, uint8_t *list, size_t list_len,
-                    uint32_t *answer, size_t answer_len);
+                    uint32_t *times, size_t times_len, uint16_t *moves, size_t moves_len,
+                    uint16_t *preds, size_t preds_len, uint8_t *marks, size_t marks_len,
+                    uint8_t *list, size_t list_len, uint32_t *answer, size_t answer_len);
 uint32_t yard_df(const uint8_t *image, size_t image_len, uint16_t source, uint16_t length,
-                 uint32_t *times, size_t times_len, uint16_t *preds, size_t preds_len,
-                 uint8_t *marks, size_t marks_len, uint8_t *list, size_t list_len,
-                 uint32_t *answer, size_t answer_len);
+                 uint32_t *times, size_t times_len, uint16_t *moves, size_t moves_len,
+                 uint16_t *preds, size_t preds_len, uint8_t *marks, size_t marks_len,
+                 uint8_t *list, size_t list_len, uint32_t *answer, size_t answer_len);
 
 /*
  * The stations from the source to a station, by the predecessors that a search left (exactly N of them: preds_len is

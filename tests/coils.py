@@ -1,4 +1,5 @@
-"""What the program `coils` prints, written from document 01, "Route, whole check, program", and document 02, C-11.
+"""What the program `coils` prints, written from document 01, "Route, whole check, program", and document 02, C-11 and
+C-14.
 
     printed(file, data)    -> the whole output, for the bytes of `yard.map` (None: it can't be opened) and of the input
 """
@@ -6,7 +7,7 @@ from searches import df
 
 LONGEST = 63492
 RECORD = 8
-ROOM = (2048,) * 4  # tables with an entry for each station of the largest map
+ROOM = (2048,) * 5  # tables with an entry for each station of the largest map
 
 
 def image_of(file):

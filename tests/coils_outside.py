@@ -21,7 +21,8 @@ from pathlib import Path
 from coils import LONGEST, printed
 from limits import random_limits, strips_about
 from make_coils_examples import largest, plate_yard, record
-from make_search_cases import M7, M7_LIMITED, damaged, drawn, page_begins, random_change, random_map
+from make_search_cases import (M7, M7_LIMITED, WORKED_THROUGH, damaged, drawn, page_begins, random_change,
+                               random_map)
 
 TARGET = Path(__file__).resolve().parent.parent / 'target'
 BY_THE_KIT, WITH_STATUS = TARGET / 'bin' / 'coils', TARGET / 'coils'
@@ -72,6 +73,8 @@ def cases():
     assert len(full) == LONGEST
     bad = damaged(M7, (page_begins(M7, 1), 7))
     limited = drawn([0, 1], '0-1/1/100')
+    # 2 and 3 have time 5, 2 by two moves and 3 by one
+    tied = drawn([0, 0, 1, 2], '0-1/2 1-2/3 0-3/5')
     made = [
         row('document 01', M7, both, LINE_0 + LINE_7),
         row('no map', None, both, b'coil 7 refused 1\ncoil 8 refused 1\n'),
@@ -93,6 +96,10 @@ def cases():
             record(1, 100, 0) + record(2, 101, 0), b'coil 1 refused 8\ncoil 2 length 101 from 0 pages 1 reached 1\n'),
         row('a limit of 0', drawn([0, 1], '0-1/1/0'), record(1, 0, 0) + record(2, 1, 1),
             b'coil 1 refused 18\ncoil 2 length 1 from 1 pages 1 reached 1\n'),
+        row('fewer moves at the same time: a page fetched again', WORKED_THROUGH, FROM_0,
+            b'coil 7 length 8120 from 0 pages 3 reached 7\n'),
+        row('fewer moves at the same time: another bad page',
+            damaged(tied, (page_begins(tied, 1), 7), (page_begins(tied, 2), 0)), FROM_0, b'coil 7 refused 10\n'),
         row('M7 less its last byte', M7[:-1], both, b'coil 7 refused 4\ncoil 8 refused 4\n'),
         row('M7, station 3 on no page', damaged(M7, (7, 2)), FROM_0, b'coil 7 refused 5\n'),
         row('2,000 records', M7, b''.join(record(k * 1000003 % 2**32, k, k % 9) for k in range(2000))),

@@ -1,18 +1,21 @@
-"""What documents 00 and 01 and document 02, C-11, promise of the two searches, checked without the steps of a search.
+"""What documents 00 and 01 and document 02, C-11 and C-14, promise of the two searches, checked without the steps of a
+search.
 
     check(image, source, strip, lengths, plain, df, rng)    what is promised of a call
     check_lengths(shorter, longer)                          and of two outcomes, for a shorter and a longer strip
 
-Both stop by an AssertionError where a promise is broken. Least times come from rounds over all open moves until nothing
-falls (Bellman and Ford), predecessors from the times alone, the refused page from document 01's sentence, Dijkstra's
-list from the order of the least times, and ours from the times that are known after each reference. `plain` and `df`
-are the searches under check; they are called again on images whose unlisted pages hold other bytes.
+Both stop by an AssertionError where a promise is broken. A way is a pair, time and number of moves: "Less means less
+time, then fewer moves", and so Python compares pairs. Least ways come from rounds over all open moves until nothing
+falls (Bellman and Ford), predecessors from the least ways alone, the refused page from document 01's sentence,
+Dijkstra's list from the order of the least ways, and ours from the ways that are known after each reference; moves are
+also counted along the predecessors. `plain` and `df` are the searches under check; they are called again on images
+whose unlisted pages hold other bytes.
 """
 from collections import Counter
 
 from reader import PAGE, read_page
 
-NO_TIME = 4294967295
+NO_TIME, NO_MOVES = 4294967295, 65535
 SOURCE, NOBODY = 65534, 65535
 
 
@@ -57,38 +60,43 @@ class Map:
         return self.directory[s] in self.faults
 
 
-def lower(times, moves):
-    """Lowers times along the moves until none falls."""
+def with_move(way, time):
+    """The way and a move of that time behind it."""
+    return way[0] + time, way[1] + 1
+
+
+def lower(ways, moves):
+    """Lowers ways along the moves until none falls."""
     falls = True
     while falls:
         falls = False
         for u, v, time in moves:
-            if u in times and times[u] + time < times.get(v, NO_TIME):
-                times[v] = times[u] + time
+            if u in ways and (v not in ways or with_move(ways[u], time) < ways[v]):
+                ways[v] = with_move(ways[u], time)
                 falls = True
 
 
-def least_times(yard, source):
+def least_ways(yard, source):
     """"Least .. over walks that leave only stations on good pages": only those have moves here."""
-    times = {source: 0}
-    lower(times, yard.moves)
-    return times
+    ways = {source: (0, 0)}
+    lower(ways, yard.moves)
+    return ways
 
 
-def lowest_predecessors(yard, source, times):
-    """"source 65,534; none 65,535; otherwise the lowest station whose time plus move gives v's time\""""
+def lowest_predecessors(yard, source, ways):
+    """"source 65,534; none 65,535", and "The predecessor is the lowest station that gives both numbers.\""""
     found = [NOBODY] * yard.n
     for u, v, time in yard.moves:
-        if u in times and times[u] + time == times[v]:
+        if u in ways and with_move(ways[u], time) == ways[v]:
             found[v] = min(found[v], u)
     found[source] = SOURCE
     return found
 
 
-def settled_order(yard, times):
-    """The stations by least time and number, up to the first on a bad page."""
+def settled_order(yard, ways):
+    """The stations by least way and number, up to the first on a bad page."""
     order = []
-    for s in sorted(times, key=lambda s: (times[s], s)):
+    for s in sorted(ways, key=lambda s: (ways[s], s)):
         order.append(s)
         if yard.is_bad(s):
             break
@@ -96,22 +104,22 @@ def settled_order(yard, times):
 
 
 def df_list(yard, source, order):
-    """Our list, from the times known after each reference.
+    """Our list, from the ways known after each reference.
 
-    A reference to a page makes known all times that walks on that page give, from the times known before. A station of
-    the order calls for one unless its page was referred to and its time hasn't fallen since.
+    A reference to a page makes known all ways that walks on that page give, from the ways known before. A station of
+    the order calls for one unless its page was referred to and its way hasn't fallen since.
     """
     on_page = {}
     for u, v, time in yard.moves:
         on_page.setdefault(yard.directory[u], []).append((u, v, time))
-    known, after, made = {source: 0}, {}, []
+    known, after, made = {source: (0, 0)}, {}, []
     for s in order:
         p = yard.directory[s]
         if p in after and after[p].get(s) == known[s]:
             continue
         made.append(p)
         lower(known, on_page.get(p, []))
-        after[p] = {v: time for v, time in known.items() if yard.directory[v] == p}
+        after[p] = {v: way for v, way in known.items() if yard.directory[v] == p}
     return made
 
 
@@ -135,16 +143,18 @@ def entry_stations(yard, source, listed):
     return Counter(yard.directory[s] for s in entries if yard.directory[s] in listed)
 
 
-def spells_a_walk(yard, source, times, predecessors):
-    """Whether the predecessors lead from every station with a time back to the source, by moves that add up to it."""
-    moves = {(u, v): time for u, v, time in yard.moves}
-    for v in times:
-        if v != source:
-            u = predecessors[v]
-            # every move takes time, so the times fall towards the source
-            if u not in times or times[u] + moves.get((u, v), NO_TIME) != times[v]:
-                return False
-    return times[source] == 0 and predecessors[source] == SOURCE
+def spelled_ways(yard, predecessors):
+    """The ways that the predecessors spell, from the source outwards: the moves' times added up, the moves counted."""
+    time_of = {(u, v): time for u, v, time in yard.moves}
+    behind = {}
+    for v, u in enumerate(predecessors):
+        behind.setdefault(u, []).append(v)
+    ways, rest = {}, [(source, (0, 0)) for source in behind.get(SOURCE, [])]
+    while rest:
+        u, way = rest.pop()
+        ways[u] = way
+        rest += [(v, with_move(way, time_of[u, v])) for v in behind.get(u, []) if (u, v) in time_of]
+    return ways
 
 
 def other_image(image, listed, rng):
@@ -157,14 +167,15 @@ def other_image(image, listed, rng):
     return bytes(made)
 
 
-def check_accepted(yard, source, times, outcome):
-    """Demand 2."""
+def check_accepted(yard, source, ways, outcome):
+    """Demand 2, and the moves: those of the least way, which are those of the walk that the predecessors spell."""
     n = yard.n
-    assert outcome.answer == ('accepted', len(outcome.list), len(times))
-    assert outcome.times == [times.get(s, NO_TIME) for s in range(n)]
-    assert outcome.predecessors == lowest_predecessors(yard, source, times)
+    assert outcome.answer == ('accepted', len(outcome.list), len(ways))
+    assert outcome.times == [ways[s][0] if s in ways else NO_TIME for s in range(n)]
+    assert outcome.moves == [ways[s][1] if s in ways else NO_MOVES for s in range(n)]
+    assert outcome.predecessors == lowest_predecessors(yard, source, ways)
     assert outcome.marks == [0] * n
-    assert spells_a_walk(yard, source, times, outcome.predecessors)
+    assert spelled_ways(yard, outcome.predecessors) == ways
 
 
 def check_refused(yard, place, outcome):
@@ -173,7 +184,8 @@ def check_refused(yard, place, outcome):
     number, offset = yard.faults[p]
     assert outcome.answer == ('refused', number, p, offset, len(outcome.list))
     assert outcome.list[-1] == p and p not in outcome.list[:-1]
-    assert (outcome.times, outcome.predecessors, outcome.marks) == ([NO_TIME] * n, [NOBODY] * n, [0] * n)
+    assert (outcome.times, outcome.moves) == ([NO_TIME] * n, [NO_MOVES] * n)
+    assert (outcome.predecessors, outcome.marks) == ([NOBODY] * n, [0] * n)
 
 
 def check_list(yard, source, ours, dijkstras):
@@ -185,14 +197,15 @@ def check_list(yard, source, ours, dijkstras):
 
 
 def check_map(yard, source, plain, df):
-    times = least_times(yard, source)
-    order = settled_order(yard, times)
-    bad = [s for s in times if yard.is_bad(s)]
+    ways = least_ways(yard, source)
+    order = settled_order(yard, ways)
+    bad = [s for s in ways if yard.is_bad(s)]
     for outcome in (plain, df):
         if bad:
-            check_refused(yard, min(bad, key=lambda s: (times[s], s)), outcome)
+            # "of all on bad pages, least by time and then number", by C-14's order
+            check_refused(yard, min(bad, key=lambda s: (ways[s], s)), outcome)
         else:
-            check_accepted(yard, source, times, outcome)
+            check_accepted(yard, source, ways, outcome)
     assert plain.list == [yard.directory[s] for s in order]
     assert df.list == df_list(yard, source, order)
     check_list(yard, source, df.list, plain.list)
@@ -202,7 +215,7 @@ def check(image, source, strip, lengths, plain, df, rng):
     outcomes = plain(image, source, strip, lengths), df(image, source, strip, lengths)
     refusal = first_refusal(image, source, lengths)
     if refusal:
-        assert all(outcome == (('refused',) + refusal, [], [], [], []) for outcome in outcomes)
+        assert all(outcome == (('refused',) + refusal, [], [], [], [], []) for outcome in outcomes)
     else:
         check_map(Map(image, strip), source, *outcomes)
     # "Where demand 3 .. compares searches or images, all have the same strip length too"
@@ -212,7 +225,10 @@ def check(image, source, strip, lengths, plain, df, rng):
 
 
 def check_lengths(shorter, longer):
-    """"For two lengths on one map from one source, both accepted, the longer never has a lesser time.\""""
+    """"For two lengths on one map from one source, both accepted, the longer never has a lesser time.", nor, where the
+    times are equal, fewer moves: each of its walks is one for the shorter, too."""
     if shorter.answer[0] == longer.answer[0] == 'accepted':
         # "Where times are compared, none is above all.", and so is its number
         assert all(time <= other for time, other in zip(shorter.times, longer.times))
+        rows = zip(shorter.times, longer.times, shorter.moves, longer.moves)
+        assert all(moves <= others for time, other, moves, others in rows if time == other)

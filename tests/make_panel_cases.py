@@ -12,8 +12,8 @@ import struct
 
 from limits import LONGEST_STRIP, random_limits, strips_about
 from make_search_cases import (C8, M7, M7_LIMITED, M7_PAGES, PRIME, S, STRIP, course_cases, damaged, large_cases,
-                               limit_cases, page_refusal_cases, random_change, random_map, refusal_cases, run_words,
-                               runs, spelled)
+                               limit_cases, page_refusal_cases, random_change, random_map, refusal_cases,
+                               refused_at_equal_time_cases, run_words, runs, spelled)
 from maps import image, page, station, u16, u32
 from panel import GREATEST_TIME, answers, check
 from searches import NO_TIME
@@ -138,9 +138,11 @@ def stated(wanted, n, stations):
 
 
 def taken_over_cases(cases):
-    """Document 01's maps; every refusal, its page reached or not; strips about the limits; a full map."""
+    """Document 01's maps; every refusal, its page reached or not; which of two bad pages is refused; strips about the
+    limits; a full map."""
     for part in (course_cases, refusal_cases, page_refusal_cases, limit_cases):
         part(TakenOver(cases))
+    refused_at_equal_time_cases(TakenOver(cases, 'which of two bad pages is refused at equal time'))
     large_cases(TakenOver(cases, 'a full map with limits'))
 
 

@@ -4,13 +4,15 @@
     python3 tests/make_search_cases.py --check    only compare them with what would be written; exit 1 on a difference
 
 The expected text comes from searches.py. demands.py holds each outcome against what the documents promise, and any two
-for two lengths of the strip on one map from one source; where document 01 or document 02, C-11, states an answer, a
-list, times or predecessors, the case below states them by hand. The generator stops where one of these says otherwise.
+for two lengths of the strip on one map from one source; where document 01 or document 02, C-11 or C-14, states an
+answer, a list, times, moves or predecessors, the case below states them by hand. The generator stops where one of these
+says otherwise, and where no case needs a part of C-14's order (by_time.py).
 """
 import random
-from collections import namedtuple
+from collections import Counter, namedtuple
 from itertools import combinations
 
+from by_time import NEEDED, differences
 from demands import check, check_lengths
 from limits import LONGEST_STRIP, random_limit, random_limits, strips_about
 from maps import image, move, page, station, u16, u32
@@ -23,9 +25,12 @@ FOLDER = ROOT / 'crates' / 'search_test'
 # The length of the strip in calls that name no other: that of document 01's example.
 STRIP = 8120
 
-# What stands in each table before a call: times, predecessors, marks, page list.
-BEFORE = (2863311530, 43690, 170, 187)
-NAMES = ('times', 'predecessors', 'marks', 'list')
+# What stands in each table before a call: times, moves, predecessors, marks, page list.
+BEFORE = (2863311530, 52428, 43690, 170, 187)
+NAMES = ('times', 'moves', 'predecessors', 'marks', 'list')
+TABLES = len(NAMES)
+# Larger images are not searched again by variants of the searches, for the time that it takes.
+SMALL_MAP = 12000
 MOST_RUNS = 64
 PRIME = 4294967291
 
@@ -101,7 +106,7 @@ def table_words(entries):
 
 
 def after(outcome, lengths):
-    """All entries of the four tables after a call."""
+    """All entries of the five tables after a call."""
     for written, length, before in zip(outcome[1:], lengths, BEFORE):
         assert len(written) <= length
         yield list(written) + [before] * (length - len(written))
@@ -138,6 +143,7 @@ class Cases:
     def __init__(self):
         self.searches, self.stream, self.lines = 0, [], []
         self.rng = random.Random(240)  # the bytes of unlisted pages in second images
+        self.needs = Counter()  # how many calls need which part of C-14's order, and for what
 
     def add(self, label, data, calls):
         text = label.encode('ascii')
@@ -152,22 +158,29 @@ class Cases:
     def add_call(self, label, data, one):
         lengths = one.lengths
         if lengths is None:
-            lengths = (int.from_bytes(data[:2], 'little'),) * 4
+            lengths = (int.from_bytes(data[:2], 'little'),) * TABLES
         outcomes = check(data, one.source, one.strip, lengths, plain, df, self.rng)
         one.compare(label, outcomes)
+        if len(data) <= SMALL_MAP:
+            self.needs.update(differences(data, one.source, one.strip, lengths, outcomes))
         self.stream += [u16(one.source), u16(one.strip), *map(u16, lengths), bytes([len(one.changes)])]
         self.stream += [u32(at) + bytes([value]) for at, value in one.changes]
         self.lines += call_lines(one, lengths, outcomes)
         self.searches += len(outcomes)
         return outcomes
 
+    def check_needs(self):
+        for variant, names in NEEDED.items():
+            for name in names:
+                assert self.needs[variant, name], f'no case in which {variant.__name__} has another {name}'
+
 
 class Call:
     """A call of both searches.
 
     `lengths` are those of the lent tables, N each if not given. `changes` are made to the image first and stay. `strip`
-    is the strip's length. `wanted` is stated by hand: answer (of both searches, or how it begins), times, predecessors,
-    list, plain_list.
+    is the strip's length. `wanted` is stated by hand: answer (of both searches, or how it begins), times, moves,
+    predecessors, list, plain_list.
     """
 
     def __init__(self, source, lengths=None, changes=(), strip=STRIP, **wanted):
@@ -176,7 +189,7 @@ class Call:
     def compare(self, label, outcomes):
         of_plain, of_df = outcomes
         asked = self.source, self.strip
-        found = {'times': of_df.times, 'predecessors': of_df.predecessors, 'list': of_df.list,
+        found = {'times': of_df.times, 'moves': of_df.moves, 'predecessors': of_df.predecessors, 'list': of_df.list,
                  'plain_list': of_plain.list}
         for name, value in self.wanted.items():
             if name == 'answer':
@@ -186,6 +199,11 @@ class Call:
             else:
                 numbers = [int(word) for word in value.split()]
                 assert found[name] == numbers, (label, *asked, name, found[name], numbers)
+
+
+def number_words(numbers):
+    """The numbers of a table or a list, as a case states them."""
+    return ' '.join(map(str, numbers))
 
 
 def from_all(n, lengths=None):
@@ -205,6 +223,9 @@ M7_LIMITED = drawn([0, 0, 0, 0, 1, 1, 1], '0-1/4, 0-4/2/8120, 1-2/3, 2-3/3, 3-5/
 # "N 4, one page, from 0: 0-1/6, 0-2/5, 1-3/4, 2-3/5"
 C6 = drawn([0] * 4, '0-1/6, 0-2/5, 1-3/4, 2-3/5')
 
+# First bytes of a page with stations that make it bad: a station is missing, a move comes first, the code is unknown.
+BAD_BEGINNINGS = [0, 2, 3, 4, 255]
+
 # "N 2, P 2, station i on page i, no moves, page 1 begins `07`"
 C8 = image([0, 1], page(station(0)), page(b'\x07'))
 
@@ -212,45 +233,49 @@ C8 = image([0, 1], page(station(0)), page(b'\x07'))
 def course_cases(cases):
     """C1 to C9."""
     cases.add('C1 to C4: M7', M7, [
-        Call(0, answer='accepted', times='0 4 3 6 2 8 9', predecessors='65534 0 4 2 0 4 5',
+        Call(0, answer='accepted', times='0 4 3 6 2 8 9', moves='0 1 2 3 1 2 3', predecessors='65534 0 4 2 0 4 5',
              list='0 1 0', plain_list='0 1 0 0 0 1 1'),
-        Call(6, answer='accepted, count 1, reached 1', list='1', plain_list='1'),
-        *from_all(7, (9, 8, 10, 12)),
-        Call(0, (2100,) * 4)])
+        Call(6, answer='accepted, count 1, reached 1', moves='65535 65535 65535 65535 65535 65535 0', list='1',
+             plain_list='1'),
+        *from_all(7, (9, 11, 8, 10, 12)),
+        Call(0, (2100,) * 5)])
     cases.add('C5: S', S, [
-        Call(0, answer='accepted, count 1, reached 1', times='0', list='0'), Call(0, (4, 3, 2, 5))])
+        Call(0, answer='accepted, count 1, reached 1', times='0', moves='0', list='0'), Call(0, (4, 6, 3, 2, 5))])
     cases.add('C6', C6, [
-        Call(0, answer='accepted', times='0 6 5 10', predecessors='65534 0 0 1', list='0', plain_list='0 0 0 0'),
-        *from_all(4, (5, 6, 7, 8))])
+        # both ways to 3 have two moves: its predecessor is still 1
+        Call(0, answer='accepted', times='0 6 5 10', moves='0 1 1 2', predecessors='65534 0 0 1', list='0',
+             plain_list='0 0 0 0'),
+        *from_all(4, (5, 9, 6, 7, 8))])
     bad = damaged(M7, (M7_PAGES[1], 7))
     cases.add('C7: M7, page 1 begins 07', bad, [
         Call(0, answer='refused 8, page 1, offset 0, count 2', list='0 1', plain_list='0 1'),
-        *from_all(7, (8, 9, 10, 11))])
+        *from_all(7, (8, 12, 9, 10, 11)),
+        Call(0, (2100,) * 5)])
     cases.add('C8 and C9', C8, [
         Call(0, answer='accepted, count 1, reached 1', list='0', plain_list='0'),
         Call(1, answer='refused 8, page 1, offset 0, count 1', list='1', plain_list='1'),
-        Call(0, (5, 4, 3, 6)), Call(1, (5, 4, 3, 6))])
+        Call(0, (5, 7, 4, 3, 6)), Call(1, (5, 7, 4, 3, 6))])
 
 
 def lent(n):
     """Table lengths about n: exactly n, one short in each table and in all, longer, and none at all."""
-    rows = [(n,) * 4]
-    rows += [tuple(n - (k == short) for k in range(4)) for short in range(4)]
-    rows += [tuple(n + 5 * (k != short) - (k == short) for k in range(4)) for short in range(4)]
-    return rows + [(n - 1,) * 4, (n + 1, n + 2, n + 3, n + 4), (0,) * 4]
+    rows = [(n,) * TABLES]
+    rows += [tuple(n - (k == short) for k in range(TABLES)) for short in range(TABLES)]
+    rows += [tuple(n + 5 * (k != short) - (k == short) for k in range(TABLES)) for short in range(TABLES)]
+    return rows + [(n - 1,) * TABLES, (n + 1, n + 5, n + 2, n + 3, n + 4), (0,) * TABLES]
 
 
 def refusal_cases(cases):
     """Rows 1 to 7, in order, and that a lower row is answered before a higher one."""
-    def row(label, data, answer, source=0, lengths=(3, 4, 5, 6)):
-        cases.add(label, data, [Call(source, lengths, answer=answer), Call(source, (0,) * 4, answer=answer),
+    def row(label, data, answer, source=0, lengths=(3, 7, 4, 5, 6)):
+        cases.add(label, data, [Call(source, lengths, answer=answer), Call(source, (0,) * TABLES, answer=answer),
                                 Call(65535, lengths, answer=answer)])
 
     row('1: an empty image', b'', 'refused 1')
     row('1: 3 bytes, 01 00 01', b'\x01\x00\x01', 'refused 1')
     row('2: 00 00 01 00', b'\x00\x00\x01\x00', 'refused 2')
     row('2: N 0 in an image of the right length', image([], page()), 'refused 2')
-    row('2: N 2,049', image([0] * 2049, page()), 'refused 2', lengths=(2100,) * 4)
+    row('2: N 2,049', image([0] * 2049, page()), 'refused 2', lengths=(2100,) * 5)
     row('2: N 2,049 and P 241', u16(2049) + u16(241), 'refused 2')
     row('3: 01 00 00 00', b'\x01\x00\x00\x00', 'refused 3')
     row('3: P 0 in an image of the right length', image([0]), 'refused 3')
@@ -266,17 +291,22 @@ def refusal_cases(cases):
     row('5: M7, the last station on no page, page 0 begins 07', damaged(M7, (10, 2), (11, 7)), 'refused 5, station 6')
 
     six = [Call(source, lengths, answer='refused 6')
-           for source in (1, 2, 256, 32768, 65534, 65535) for lengths in ((1,) * 4, (3, 4, 5, 6), (0,) * 4)]
+           for source in (1, 2, 256, 32768, 65534, 65535) for lengths in ((1,) * 5, (3, 7, 4, 5, 6), (0,) * 5)]
     cases.add('6: S, source 1 and above', S, six)
     cases.add('6: M7, source 6, then 7 and above', M7, [
-        Call(6, answer='accepted'), Call(7, answer='refused 6'), Call(8, (7, 8, 9, 10), answer='refused 6'),
-        Call(256, answer='refused 6'), Call(65535, answer='refused 6'), Call(7, (0,) * 4, answer='refused 6')])
+        Call(6, answer='accepted'), Call(7, answer='refused 6'), Call(8, (7, 11, 8, 9, 10), answer='refused 6'),
+        Call(256, answer='refused 6'), Call(65535, answer='refused 6'), Call(7, (0,) * 5, answer='refused 6')])
 
     def seven(n, otherwise):
         return [Call(0, lengths, answer='refused 7' if min(lengths) < n else otherwise) for lengths in lent(n)]
 
-    cases.add('7: S, a list of 0 entries', S, [Call(0, (1, 1, 1, 0), answer='refused 7'), *seven(1, 'accepted')])
+    cases.add('7: S, a list of 0 entries', S, [Call(0, (1, 1, 1, 1, 0), answer='refused 7'), *seven(1, 'accepted')])
     cases.add('7: M7, tables of about 7 entries', M7, seven(7, 'accepted'))
+    # "A fifth table, u16 moves per station (none 65,535), is lent; a short one is refusal 7"
+    cases.add('7: M7, moves alone too short, or alone longer', M7, [
+        *[Call(0, (7, short, 7, 7, 7), answer='refused 7') for short in (0, 1, 6)],
+        Call(0, (2100, 6, 2100, 2100, 2100), answer='refused 7'),
+        Call(0, (7, 2100, 7, 7, 7), answer='accepted'), Call(6, (7, 8, 7, 7, 7), answer='accepted')])
     cases.add('7: M7 with two bad pages, tables of about 7 entries', damaged(M7, *[(at, 7) for at in M7_PAGES]),
               seven(7, 'refused 8, page 0, offset 0, count 1'))
 
@@ -326,7 +356,7 @@ def page_refusal_cases(cases):
         others = [s for s in range(3, n) if s not in own]
         last = page(station(2), move(0, 1), *map(station, others))
         refused = f'refused {number}, page 1, offset {offset}'
-        roomy = (n + 1, n + 2, n, n + 3)
+        roomy = (n + 1, n + 4, n + 2, n, n + 3)
         cases.add(label + ', reached', image(directory, page(station(0), move(1, 1)), bad, last), [
             Call(0, answer=refused + ', count 2', list='0 1', plain_list='0 1'),
             Call(1, roomy, answer=refused + ', count 1', list='1', plain_list='1'),
@@ -341,49 +371,181 @@ def page_refusal_cases(cases):
         Call(0, changes=[(page_begins(two, p), 9) for p in (1, 2)], answer='refused 8, page 1, offset 0',
              list='0 1', plain_list='0 0 1'),
         Call(0, changes=[(page_begins(two, 0) + 16, 4)], answer='refused 8, page 2, offset 0', list='0 2'),
-        Call(4, (6, 7, 8, 9), list='3 0 2')])
+        Call(4, (6, 10, 7, 8, 9), list='3 0 2')])
 
 
 def tie_cases(cases):
     """Equal sums and ties of every kind."""
     # an equal sum that made station 2 not fresh would give the list 1 0 1
-    cases.add('an equal sum leaves a station fresh', drawn([0, 1, 1], '1-0/1, 1-2/2, 0-2/1'), [
-        Call(1, answer='accepted', times='1 0 2', predecessors='1 65534 0', list='1 0',
-             plain_list='1 0 1'),
-        *from_all(3, (4, 5, 6, 7))])
+    cases.add('an equal sum leaves a station fresh', drawn([0, 1, 1, 1], '1-0/1, 1-3/1, 3-2/1, 0-2/1'), [
+        Call(1, answer='accepted', times='1 0 2 1', moves='1 0 2 1', predecessors='1 65534 0 1', list='1 0',
+             plain_list='1 0 1 1'),
+        *from_all(4, (4, 8, 5, 6, 7))])
     cases.add('an equal sum from a higher station keeps the predecessor', drawn(
         [0, 0, 1, 1], '0-1/1, 0-2/1, 1-3/1, 2-3/1'), [
-            Call(0, times='0 1 1 2', predecessors='65534 0 0 1'), *from_all(4, (4, 5, 6, 7))])
+            Call(0, times='0 1 1 2', predecessors='65534 0 0 1'), *from_all(4, (4, 8, 5, 6, 7))])
     cases.add('equal sums from the highest station on down', drawn(
         [0, 1, 2, 0, 1, 2, 0], '6-5/1 6-4/2 6-3/3 6-2/4 6-1/5 5-0/9 4-0/8 3-0/7 2-0/6 1-0/5'), [
-            Call(6, times='10 5 4 3 2 1 0', predecessors='1 6 6 6 6 6 65534'), *from_all(6, (9, 9, 9, 9))])
+            Call(6, times='10 5 4 3 2 1 0', predecessors='1 6 6 6 6 6 65534'), *from_all(6, (9, 9, 9, 9, 9))])
     cases.add('a settled station gets a lower predecessor by an equal sum only from an earlier time',
-              drawn([0, 1, 0, 1], '3-0/2 3-1/1 1-0/1 3-2/1 2-0/1 0-1/1'),
-              [Call(3, times='2 1 1 0', predecessors='1 3 3 65534'), *from_all(3)])
+              drawn([0, 1, 0, 1, 0], '3-4/1 4-0/1 3-1/1 1-0/1 3-2/1 2-0/1 0-1/1'),
+              [Call(3, times='2 1 1 0 1', moves='2 1 1 0 1', predecessors='1 3 3 65534 3'), *from_all(3)])
     cases.add('all stations at the same time', spelled(
         [s % 3 for s in range(12)], {11: [(target, 5) for target in range(11)]}, 3), [
             Call(11, predecessors='11 11 11 11 11 11 11 11 11 11 11 65534'), Call(0)])
     cases.add('all moves between 8 stations, each of time 1', spelled(
         [0, 0, 0, 0, 1, 1, 1, 1], {s: [(t, 1) for t in range(8) if t != s] for s in range(8)}, 2),
-        from_all(8, (8, 9, 10, 11)))
-    grid = {}
-    for s in range(36):
-        x, y = s % 6, s // 6
-        near = [(x + 1, y), (x - 1, y), (x, y + 1), (x, y - 1)]
-        grid[s] = [(6 * b + a, 2) for a, b in near if 0 <= a < 6 and 0 <= b < 6]
+        from_all(8, (8, 12, 9, 10, 11)))
+    grid = grid_moves(6, [(1, 0, 2), (-1, 0, 2), (0, 1, 2), (0, -1, 2)])
     quarters = [s % 6 // 3 + 2 * (s // 18) for s in range(36)]
     cases.add('a grid of 6 by 6 in four pages, all times equal', spelled(quarters, grid, 4),
-              [Call(s, (36, 37, 38, 39)) for s in (0, 14, 21, 35)])
+              [Call(s, (36, 40, 37, 38, 39)) for s in (0, 14, 21, 35)])
     cases.add('the same grid, a page for each row', spelled([s // 6 for s in range(36)], grid, 6), [Call(0), Call(20)])
     cases.add('the same grid, a page for each column', spelled([s % 6 for s in range(36)], grid, 6),
               [Call(0), Call(20)])
+
+
+def grid_moves(side, steps):
+    """The moves of a square grid: from each station by each step (to the right, down, time) that stays on the grid."""
+    moves = {}
+    for s in range(side * side):
+        near = [(s % side + right, s // side + down, time) for right, down, time in steps]
+        moves[s] = [(side * y + x, time) for x, y, time in near if 0 <= x < side and 0 <= y < side]
+    return moves
+
+
+def moves_cases(cases):
+    """Ways of equal time and unequal numbers of moves (document 02, C-14)."""
+    # "Crane drivers prefer, at equal time, the way with fewer moves.": to 4 by 3, not by 2
+    cases.add('fewer moves by a higher station', drawn([0, 0, 0, 1, 1], '0-1/1 1-2/1 2-4/1 0-3/2 3-4/1'), [
+        Call(0, times='0 1 2 2 3', moves='0 1 2 1 2', predecessors='65534 0 1 0 3', list='0 1', plain_list='0 0 1 0 1'),
+        *from_all(2, (5, 9, 6, 7, 8))])
+    cases.add('fewer moves by a higher station that is settled later', drawn(
+        [0] * 5, '0-1/1 1-2/1 2-4/2 0-3/3 3-4/1'), [
+            Call(0, times='0 1 2 3 4', moves='0 1 2 1 2', predecessors='65534 0 1 0 3'), Call(1)])
+    cases.add('one move from the source, or two by either lower station', drawn(
+        [0, 1, 0, 1], '3-0/2 3-1/1 1-0/1 3-2/1 2-0/1 0-1/1'), [
+            Call(3, times='2 1 1 0', moves='1 1 1 0', predecessors='3 3 3 65534'), *from_all(3)])
+    # "The predecessor is the lowest station that gives both numbers.": 2 gives only the time of 5
+    cases.add('the lowest of two stations that give both numbers, and a lower one', drawn(
+        [0, 0, 1, 1, 0, 1], '0-1/1 1-2/1 2-5/1 0-3/2 3-5/1 0-4/2 4-5/1'), [
+            Call(0, times='0 1 2 2 2 3', moves='0 1 2 1 1 2', predecessors='65534 0 1 0 0 3'),
+            Call(0, (7, 11, 8, 9, 10))])
+    # "Less means less time, then fewer moves"
+    cases.add('less time by more moves', drawn([0, 1, 0, 1], '0-3/4 0-1/1 1-2/1 2-3/1'), [
+        Call(0, times='0 1 2 3', moves='0 1 2 3', predecessors='65534 0 1 2', list='0 1 0 1')])
+    cases.add('an equal time by more moves changes nothing', drawn([0, 1, 1], '1-0/1, 1-2/2, 0-2/1'), [
+        Call(1, times='1 0 2', moves='1 0 1', predecessors='1 65534 1', list='1 0', plain_list='1 0 1'),
+        Call(0, (4, 8, 5, 6, 7))])
+    # 3 and 4, by one move, come before 2, by two
+    cases.add('chosen by time, then moves, then number', drawn([0, 0, 1, 2, 3], '0-1/1 1-2/1 0-3/2 0-4/2'), [
+        Call(0, times='0 1 2 2 2', moves='0 1 2 1 1', list='0 2 3 1', plain_list='0 0 2 3 1'),
+        Call(0, (5, 9, 6, 7, 8))])
+    # the same time for both lengths, and not fewer moves for the longer
+    cases.add('one move for strips of up to 100, and two in the same time for all', drawn(
+        [0, 1, 0], '0-1/1 1-2/1 0-2/2/100'), [
+            Call(0, strip=100, times='0 1 2', moves='0 1 1', predecessors='65534 0 0', list='0 1'),
+            Call(0, strip=101, times='0 1 2', moves='0 1 2', predecessors='65534 0 1', list='0 1 0')])
+
+
+# From 0, page 0 is worked through: 4 has time 4 by three moves, and 5 has time 5 by 3. Then 6 gives 4 its time by two
+# moves, and 5 is reached by 4. A station 4 that stayed fresh would leave 5 to 3 and give the list 0 1.
+WORKED_THROUGH = drawn([0, 0, 0, 0, 0, 0, 1], '0-1/1 1-2/1 2-3/1 2-4/2 3-5/2 4-5/1 0-6/2 6-4/2')
+
+
+def fresh_cases(cases):
+    """Stations that get fewer moves at the same time after their page was worked through (document 02, C-14)."""
+    cases.add('a station worked through gets fewer moves at the same time', WORKED_THROUGH, [
+        Call(0, times='0 1 2 3 4 5 2', moves='0 1 2 3 2 3 1', predecessors='65534 0 1 2 6 4 0', list='0 1 0',
+             plain_list='0 0 1 0 0 0 0'),
+        Call(0, (7, 11, 8, 9, 10)), Call(2)])
+    # the same, and 5 is on a page of its own
+    cases.add('a station worked through gets fewer moves, and so does one on the next page', drawn(
+        [0, 0, 0, 0, 0, 2, 1], '0-1/1 1-2/1 2-3/1 2-4/2 3-5/2 4-5/1 0-6/2 6-4/2'), [
+            Call(0, times='0 1 2 3 4 5 2', moves='0 1 2 3 2 3 1', predecessors='65534 0 1 2 6 4 0', list='0 1 0 2',
+                 plain_list='0 0 1 0 0 0 2')])
+    # 1, 2 and 3 get fewer moves from 10, 11 and 12, one after the other
+    cases.add('a page fetched again and again for fewer moves alone', drawn(
+        [0] * 10 + [1, 2, 3], '0-4/1 4-5/1 5-1/1 1-6/1 6-7/1 7-2/1 2-8/1 8-9/1 9-3/1 '
+        '0-10/1 10-1/2 0-11/4 11-2/2 0-12/7 12-3/2'), [
+            Call(0, times='0 3 6 9 1 2 4 5 7 8 1 4 7', moves='0 2 2 2 1 2 3 4 3 4 1 1 1',
+                 predecessors='65534 10 11 12 0 4 1 6 2 8 0 0 0', list='0 1 0 2 0 3 0'),
+            Call(0, (13, 17, 14, 15, 16))])
+
+
+def refused_at_equal_time_cases(cases):
+    """Which of the bad pages is refused whose stations have the same time (document 02, C-14)."""
+    # From 0, station 2 is reached in time 5 by two moves and station 3 by one; from 4 both by one. Their pages are bad,
+    # by 8 and by 10.
+    for label, directory in [('the lower number on the lower page', [0, 0, 1, 2, 3]),
+                             ('the lower number on the higher page', [0, 0, 2, 1, 3])]:
+        of_2, of_3 = directory[2], directory[3]
+        tied = drawn(directory, '0-1/2 1-2/3 0-3/5 4-2/5 4-3/5')
+        bad = damaged(tied, (page_begins(tied, of_2), 7), (page_begins(tied, of_3), 0))
+        cases.add('which of two bad pages is refused at equal time: fewest moves, then lowest number; ' + label, bad, [
+            Call(0, answer=f'refused 10, page {of_3}, offset 0', list=f'0 {of_3}', plain_list=f'0 0 {of_3}'),
+            Call(4, answer=f'refused 8, page {of_2}, offset 0, count 2', list=f'3 {of_2}', plain_list=f'3 {of_2}'),
+            Call(0, (6, 10, 7, 8, 9)), Call(4, (6, 10, 7, 8, 9))])
+    rng = random.Random(14)
+    for number in range(1, 11):
+        data, row, first = tied_pages_map(rng)
+        roomy = roomy_tables(rng, int.from_bytes(data[:2], 'little'), number)
+        cases.add(f'bad pages at the same time {number}', data, [
+            Call(row[0], list=f'{data[4 + row[0]]} {data[4 + first]}'), Call(rng.choice(row[1:]), roomy)])
+
+
+def tied_pages_map(rng):
+    """A map of five stations in a row on a good page and of bad pages with one station each, which a move from one of
+    the five leads to: by one to five moves, and always at time 9. With it the row, and the bad pages' first station."""
+    n = rng.randint(7, 10)
+    order = rng.sample(range(n), n)
+    row, others = order[:5], order[5:]
+    moves = {s: [] for s in row}
+    for u, v in zip(row, row[1:]):
+        moves[u].append((v, 1))
+    before = {v: rng.randrange(5) for v in others}  # the moves up to the station of the row
+    for v, k in before.items():
+        moves[row[k]].append((v, 9 - k))
+    places = rng.sample(range(n - 4), n - 4)
+    directory = [places[max(0, order.index(s) - 4)] for s in range(n)]
+    data = spelled(directory, moves, n - 4)
+    bad = [(page_begins(data, p), rng.choice(BAD_BEGINNINGS)) for p in places[1:]]
+    return damaged(data, *bad), row, min(before, key=lambda v: (before[v], v))
+
+
+def many_ties_cases(cases):
+    """Maps on which nearly all ways tie, by equal or unequal numbers of moves (document 02, C-14)."""
+    side = 20
+    blocks = [s % side // 5 + 4 * (s // side // 2) for s in range(side * side)]
+    turn = [s % 40 for s in range(side * side)]
+    cases.add('a grid of 20 by 20 in 40 pages, all times equal', spelled(
+        blocks, grid_moves(side, [(1, 0, 7), (-1, 0, 7), (0, 1, 7), (0, -1, 7)]), 40), [Call(0), Call(210)])
+    # From the last station all ways to a station take the same time, and those by steps of two have the fewest moves.
+    # The lowest station that gives both numbers is to the right, next to it if as many steps as lie there are odd, or
+    # else two steps away; in the last column, where nothing is to the right, it is below, likewise.
+    jumps = grid_moves(side, [(-1, 0, 1), (-2, 0, 2), (0, -1, 1), (0, -2, 2)])
+    away = [(side - 1 - s % side, side - 1 - s // side) for s in range(side * side)]
+    times = [right + down for right, down in away]
+    moves = [(right + 1) // 2 + (down + 1) // 2 for right, down in away]
+    predecessors = [s + (2 - right % 2 if right else side * (2 - down % 2)) for s, (right, down) in enumerate(away)]
+    stated = [number_words(times), number_words(moves), number_words(predecessors[:-1] + [65534])]
+    for label, directory in [('in 40 blocks', blocks), ('on 40 pages in turn', turn)]:
+        cases.add(f'a grid of 20 by 20 {label}, one step in time 1 and two in time 2', spelled(directory, jumps, 40), [
+            Call(399, times=stated[0], moves=stated[1], predecessors=stated[2]), Call(210)])
+    for label, most in [('dense', 9), ('sparse', 2)]:
+        directory = [s % 20 for s in range(100)]
+        targets = dealt_moves(directory, random.Random(most), most=most)
+        for which, most_time in [('all times 1', 1), ('times 1 and 2', 2), ('times 1 to 3', 3)]:
+            timed = {u: [(v, (u * 31 + v * 977) % most_time + 1) for v in leaving] for u, leaving in targets.items()}
+            cases.add(f'a {label} map of 100 stations, {which}', spelled(directory, timed, 20),
+                      [Call(0), Call(50, (100, 104, 101, 102, 103))])
 
 
 def page_again_cases(cases):
     """Pages that are entered again and again, and lowered stations."""
     zigzag = {s: [(s + 1, 1)] for s in range(39)}
     cases.add('a chain that changes page at each move', spelled([s % 2 for s in range(40)], zigzag, 2), [
-        Call(0, list=' '.join(str(s % 2) for s in range(40))), Call(39, list='1'), Call(17, (41, 42, 43, 44))])
+        Call(0, list=' '.join(str(s % 2) for s in range(40))), Call(39, list='1'), Call(17, (41, 45, 42, 43, 44))])
     back = {s: [(s - 1, 3)] for s in range(1, 40)}
     cases.add('a chain that falls, on 8 pages in turn', spelled([s % 8 for s in range(40)], back, 8), [
         Call(39), Call(0), Call(8)])
@@ -392,10 +554,10 @@ def page_again_cases(cases):
     cases.add('a station lowered by one page after another', drawn(
         [0, 1, 2, 3, 4, 0, 0], '0-1/1 0-2/2 0-3/3 0-4/4 0-5/50 1-5/40 2-5/30 3-5/20 4-5/10 5-6/1'), [
             Call(0, times='0 1 2 3 4 14 15', predecessors='65534 0 0 0 0 4 5', list='0 1 2 3 4 0'),
-            *from_all(7, (7, 8, 9, 10))])
+            *from_all(7, (7, 11, 8, 9, 10))])
     cases.add('a page worked through at once, and each station lowered later', drawn(
         [0, 0, 0, 0, 0, 1, 1, 1, 1], '0-1/10 1-2/10 2-3/10 3-4/10 0-5/1 5-1/1 0-6/3 6-2/2 0-7/5 7-3/2 0-8/7 8-4/2'), [
-            Call(0, times='0 2 5 7 9 1 3 5 7'), *from_all(9, (9, 9, 9, 9))])
+            Call(0, times='0 2 5 7 9 1 3 5 7'), *from_all(9, (9, 9, 9, 9, 9))])
     cases.add('lowered by its own page while that is worked through', drawn(
         [0, 0, 0, 0], '0-3/9 0-1/1 1-3/7 1-2/1 2-3/5'), [Call(0, times='0 1 2 7', list='0'), Call(1), Call(2)])
     both = {}
@@ -403,10 +565,11 @@ def page_again_cases(cases):
         both[s] = [(18 + s, 1), ((s + 1) % 18, 4)]
         both[18 + s] = [((s + 1) % 18, 1), (18 + (s + 1) % 18, 4)]
     cases.add('two rings on two pages, the short way across', spelled([s // 18 for s in range(36)], both, 2),
-              [Call(0), Call(25, (36, 50, 60, 70))])
+              [Call(0), Call(25, (36, 40, 50, 60, 70))])
     cases.add('stations that no walk reaches', drawn([0, 1, 2, 0, 1, 2], '0-1/7 1-0/7 3-4/1 4-5/1 5-3/1 5-0/2', 4), [
         Call(0, answer='accepted, count 2, reached 2', times='0 7 4294967295 4294967295 4294967295 4294967295',
-             predecessors='65534 0 65535 65535 65535 65535'), *from_all(6, (7, 7, 7, 7))])
+             moves='0 1 65535 65535 65535 65535', predecessors='65534 0 65535 65535 65535 65535'),
+        *from_all(6, (7, 7, 7, 7, 7))])
     cases.add('no moves at all', drawn([0, 1, 2, 0, 1, 2], ''), from_all(6))
 
 
@@ -446,7 +609,8 @@ def limit_cases(cases):
             Call(0, strip=6, times=f'0 {NO_TIME} 9 {NO_TIME} 18', list='0', plain_list='0 0 0')])
     cases.add('all moves between 8 stations, each of time 1 and a limit by how far it leads', spelled(
         [0, 0, 0, 0, 1, 1, 1, 1], {s: [(t, 1, 100 * abs(s - t)) for t in range(8) if t != s] for s in range(8)}, 2), [
-            Call(s, (8, 9, 10, 11), strip=strip) for s in (0, 3) for strip in (0, 101, 201, 301, 400, 401, 700, 701)])
+            Call(s, (8, 12, 9, 10, 11), strip=strip)
+            for s in (0, 3) for strip in (0, 101, 201, 301, 400, 401, 700, 701)])
     behind = drawn([0, 1, 2], '0-1/1/100 0-2/2/200')
     cases.add('two bad pages behind limits 100 and 200: which is refused, or none', behind, [
         Call(0, strip=100, changes=[(page_begins(behind, p), 7) for p in (1, 2)],
@@ -458,46 +622,89 @@ def limit_cases(cases):
         Call(0, strip=LONGEST_STRIP, answer='accepted, count 1, reached 1')])
 
 
-def large_cases(cases):
-    """Maps of 2,048 stations, on 240 pages as a rule."""
+# Tables with room for more than 2,048 stations.
+ROOMY = (2100, 2060, 2090, 2080, 2070)
+
+
+def long_chain_cases(cases):
+    """Chains of 2,048 stations."""
     n = 2048
-    roomy = (2100, 2090, 2080, 2070)
     chain = {s: [(s + 1, 65535)] for s in range(n - 1)}
     turn = [s % 240 for s in range(n)]
-    cases.add('the longest chain: N 2,048 on 240 pages, times 65,535', spelled(turn, chain, 240), [
-        Call(0, roomy, answer='accepted, count 2048, reached 2048'),
+    data = spelled(turn, chain, 240)
+    times = [65535 * s for s in range(n)]
+    assert times[-1] == 134150145
+    # Later 2000-2001 and 2001-2002 take 32,767 and 32,768, and 2000-2002 takes 65,535: the way there is a move shorter.
+    # 2000 and 2001 are the last stations of pages 80 and 81, and each has one move, of which the time comes last.
+    ends = [page_begins(data, p) + 8 * turn.count(p) for p in (80, 81)]
+    shortcut = [*zip(range(ends[0] - 2, ends[0] + 5), u16(32767) + move(2002, 65535)),
+                *zip(range(ends[1] - 2, ends[1]), u16(32768))]
+    cases.add('the longest chain: N 2,048 on 240 pages, times 65,535', data, [
+        Call(0, ROOMY, answer='accepted, count 2048, reached 2048', times=number_words(times),
+             moves=number_words(range(n)), predecessors=number_words([65534, *range(n - 1)])),
         Call(2047, answer='accepted, count 1, reached 1'),
-        Call(2048, roomy, answer='refused 6'),
-        Call(0, (2048, 2048, 2048, 2047), answer='refused 7'),
-        Call(1000, answer='accepted, count 1048, reached 1048')])
+        Call(2048, ROOMY, answer='refused 6'),
+        Call(0, (2048, 2048, 2048, 2048, 2047), answer='refused 7'),
+        Call(0, (2048, 2047, 2048, 2048, 2048), answer='refused 7'),
+        Call(1000, answer='accepted, count 1048, reached 1048'),
+        Call(0, changes=shortcut, answer='accepted, count 2048, reached 2048',
+             times=number_words([*times[:2001], times[2000] + 32767, *times[2001:-1]]),
+             moves=number_words([*range(2002), *range(2001, n - 1)]),
+             predecessors=number_words([65534, *range(2001), 2000, *range(2002, n - 1)]))])
+    cases.add('a chain page by page: N 2,048 on 67 pages', spelled(
+        [s // 31 for s in range(n)], {s: [(s + 1, 1)] for s in range(n - 1)}, 67), [
+            Call(0, ROOMY, answer='accepted', times=number_words(range(n)), moves=number_words(range(n)),
+                 list=number_words(range(67))),
+            Call(1000)])
+    cases.add('the same chain back, from the last station', spelled(
+        [s // 31 for s in range(n)], {s: [(s - 1, 255)] for s in range(1, n)}, 67), [Call(2047), Call(31, ROOMY)])
+
+
+def tied_chain_cases(cases):
+    """A chain of 2,048 stations from the last one back, in moves of time 1; every 30th station also has a move over 30
+    of them in their time, and the last station one to station 0 in the time of all."""
+    n = 2048
+    back = {s: [(s - 1, 1)] for s in range(1, n)}
+    for s in range(n - 1, 29, -30):
+        back[s].append((s - 30, 30))
+    back[n - 1].append((0, n - 1))
+    away = [n - 1 - s for s in range(n)]
+    fewest = [k // 30 + k % 30 for k in away]
+    before = [s + (1 if k % 30 else 30) for s, k in enumerate(away)]
+    cases.add('a chain back, and moves that take the time of 30 and of all', spelled(
+        [k // 30 for k in away], back, 69), [
+            Call(2047, ROOMY, answer='accepted', times=number_words(away), moves=number_words([1, *fewest[1:]]),
+                 predecessors=number_words([2047, *before[1:-1], 65534])),
+            Call(1000)])
+
+
+def large_cases(cases):
+    """Full maps of 2,048 stations on 240 pages."""
+    n = 2048
+    turn = [s % 240 for s in range(n)]
     moves = dealt_moves(turn, random.Random(2048))
     for label, time in [('small times', lambda u, v: (u * 31 + v * 977) % 3 + 1),
                         ('large times', lambda u, v: 65535 - (u * 31 + v * 977) % 5000),
                         ('equal times', lambda u, v: 65535)]:
         data = spelled(turn, {u: [(v, time(u, v)) for v in targets] for u, targets in moves.items()}, 240)
         assert len(data) == 63492
-        calls = [Call(0, roomy), Call(2047)]
+        calls = [Call(0, ROOMY), Call(2047)]
         if label == 'small times':
-            calls += [Call(1234, roomy, changes=[(page_begins(data, 239) + 255, 1)]),
+            calls += [Call(1234, ROOMY, changes=[(page_begins(data, 239) + 255, 1)]),
                       Call(1234, changes=[(page_begins(data, 239) + 255, 0), (page_begins(data, 17), 4)])]
         cases.add('a full map: N 2,048 on 240 pages, ' + label, data, calls)
     moves = {u: [(v, (u * 31 + v * 977) % 9 + 1, (u * 977 + v * 31) % 65535 + 1 if (u + v) % 4 else None)
                  for v in targets] for u, targets in dealt_moves(turn, random.Random(2049), 7).items()}
     cases.add('a full map with limits: N 2,048 on 240 pages', spelled(turn, moves, 240), [
-        Call(0, roomy, strip=strip) for strip in (0, 1, 8120, 30000, LONGEST_STRIP)])
-    cases.add('a chain page by page: N 2,048 on 67 pages', spelled(
-        [s // 31 for s in range(n)], {s: [(s + 1, 1)] for s in range(n - 1)}, 67), [
-            Call(0, roomy, answer='accepted', list=' '.join(map(str, range(67)))), Call(1000)])
-    cases.add('the same chain back, from the last station', spelled(
-        [s // 31 for s in range(n)], {s: [(s - 1, 255)] for s in range(1, n)}, 67), [Call(2047), Call(31, roomy)])
+        Call(0, ROOMY, strip=strip) for strip in (0, 1, 8120, 30000, LONGEST_STRIP)])
 
 
-def dealt_moves(directory, rng, size=5):
-    """Targets for the stations of a map, five each as far as the pages hold moves of so many bytes."""
+def dealt_moves(directory, rng, size=5, most=5):
+    """Targets for the stations of a map, so many each at most, as far as the pages hold moves of so many bytes."""
     room = {p: PAGE - 1 - 3 * directory.count(p) for p in set(directory)}
     moves = {}
     for s, p in enumerate(directory):
-        count = min(5, room[p] // size)
+        count = min(most, room[p] // size)
         room[p] -= size * count
         moves[s] = sorted(rng.sample([t for t in range(len(directory)) if t != s], count))
     return moves
@@ -523,16 +730,21 @@ def random_times(rng, n):
     return lambda u, v: max(1, height[v] - height[u]) + rng.choice(more)
 
 
-def random_map(rng, limits=()):
+def random_map(rng, limits=(), times=()):
     """A good map of 1 to 40 stations on 1 to 8 pages, and a station that reaches many others by all moves. The moves
-    have the limits by chance, if any are given."""
+    have the limits and the times by chance, if any are given."""
     n, pages = rng.randint(1, rng.choice([4, 10, 20, 40])), rng.choice([1, 2, 2, 2, 3, 3, 4, 4, 5, 6, 8])
     directory = random_directory(rng, n, pages)
-    time = random_times(rng, n)
-    room = {p: PAGE - 1 - 3 * directory.count(p) for p in range(pages)}
+    time = (lambda u, v: rng.choice(times)) if times else random_times(rng, n)
     order = rng.sample(range(n), n)
     wanted = [(order[rng.randrange(k)], order[k]) for k in range(1, n) if rng.random() < 0.95]
     wanted += [(rng.randrange(n), rng.randrange(n)) for _ in range(rng.choice([0, n, 2 * n, 4 * n]))]
+    return fitted(rng, directory, pages, wanted, time, limits), order[0]
+
+
+def fitted(rng, directory, pages, wanted, time, limits):
+    """The image of a map that has the moves wanted (from, target) as far as its pages have room."""
+    room = {p: PAGE - 1 - 3 * directory.count(p) for p in range(pages)}
     moves = {}
     for u, v in wanted:
         limit = random_limit(rng, limits)
@@ -540,7 +752,35 @@ def random_map(rng, limits=()):
         if u != v and v not in moves.setdefault(u, {}) and room[directory[u]] >= size:
             room[directory[u]] -= size
             moves[u][v] = v, time(u, v), limit
-    return spelled(directory, {u: leaving.values() for u, leaving in moves.items()}, pages), order[0]
+    return spelled(directory, {u: leaving.values() for u, leaving in moves.items()}, pages)
+
+
+def rising_map(rng, limits=()):
+    """A good map on which every move takes the difference of two heights, and so every way to a station the same time;
+    and its lowest station. On a page one station leads to the next; to other pages it is often further, and so pages
+    that were worked through get fewer moves from others."""
+    n, pages = rng.choice([(rng.randint(8, 20), rng.randint(2, 6)), (rng.randint(80, 100), 8)])
+    directory = random_directory(rng, n, pages)
+    order = rng.sample(range(n), n)
+    height = {order[0]: 0}
+    for below, s in zip(order, order[1:]):
+        height[s] = max(1, height[below] + rng.choice([0, 1, 1, 2]))
+    own = [[s for s in order if directory[s] == p] for p in range(pages)]
+    wanted = [pair for stations in own for pair in zip(stations, stations[1:])]
+    wanted += [(order[rng.randrange(k)], order[k]) for k in range(1, n) for _ in range(2)]
+    rising = [(u, v) for u, v in wanted if height[u] < height[v]]
+    return fitted(rng, directory, pages, rising, lambda u, v: height[v] - height[u], limits), order[0]
+
+
+# What moves take on maps on which many ways tie.
+SMALL_TIMES = [(1,), (1, 2), (1, 2, 3), (1, 2, 3)]
+
+
+def tying_map(rng, limits=()):
+    """A good map on which many ways tie: one of small times, or one that rises."""
+    if rng.random() < 0.5:
+        return random_map(rng, limits, rng.choice(SMALL_TIMES))
+    return rising_map(rng, limits)
 
 
 def random_change(rng, data):
@@ -553,28 +793,48 @@ def random_change(rng, data):
     return at, rng.choice(near) if rng.random() < 0.85 else rng.randrange(256)
 
 
+def roomy_tables(rng, n, number):
+    """Lengths of tables that have up to three entries more than the map stations: that of the moves by the number of
+    the case, the others by chance."""
+    times, *others = [n + rng.randint(0, 3) for _ in range(4)]
+    return (times, n + number % 4, *others)
+
+
+def random_bad_pages(rng, data, source):
+    """Changes that make half of the pages bad, by unlike faults, but not that of the source."""
+    own = data[4 + source]
+    pages = [p for p in range(int.from_bytes(data[2:4], 'little')) if p != own]
+    return [(page_begins(data, p), rng.choice(BAD_BEGINNINGS)) for p in rng.sample(pages, (len(pages) + 1) // 2)]
+
+
 def random_cases(cases):
-    """Some 150 good maps, each then damaged at one to three bytes."""
+    """Some 150 good maps, each then damaged at one to three bytes. On the last 30 many ways tie, and on every other of
+    these half of the pages are made bad instead."""
     rng = random.Random(7763)
     for number in range(1, 156):
-        data, first = random_map(rng)
+        ties = number > 125
+        data, first = tying_map(rng) if ties else random_map(rng)
         n = int.from_bytes(data[:2], 'little')
-        roomy = tuple(n + rng.randint(0, 3) for _ in range(4))
+        roomy = roomy_tables(rng, n, number)
         changes = dict(random_change(rng, data) for _ in range(rng.randint(1, 3)))
+        if ties and number % 2:
+            changes = dict(random_bad_pages(rng, data, first))
         cases.add(f'random map {number}', data, [
             Call(first, answer='accepted'), Call(rng.randrange(n), roomy, answer='accepted'),
             Call(first, roomy, changes=list(changes.items()))])
 
 
 def random_limit_cases(cases):
-    """60 good maps with limits, each for lengths of every kind, and then damaged at one to three bytes."""
+    """60 good maps with limits, each for lengths of every kind, and then damaged at one to three bytes. On the last 15
+    many ways tie; they are searched for two lengths, the others for four."""
     rng = random.Random(8121)
     for number in range(1, 61):
+        ties = number > 45
         limits = random_limits(rng)
-        data, first = random_map(rng, limits)
+        data, first = (tying_map if ties else random_map)(rng, limits)
         n = int.from_bytes(data[:2], 'little')
-        roomy = tuple(n + rng.randint(0, 3) for _ in range(4))
-        strips = rng.sample(strips_about(limits), 4)
+        roomy = roomy_tables(rng, n, number)
+        strips = rng.sample(strips_about(limits), 2 if ties else 4)
         changes = dict(random_change(rng, data) for _ in range(rng.randint(1, 3)))
         cases.add(f'random map {number} with limits', data, [
             *[Call(first, strip=strip, answer='accepted') for strip in strips],
@@ -584,9 +844,11 @@ def random_limit_cases(cases):
 
 def main():
     cases = Cases()
-    for part in (course_cases, refusal_cases, page_refusal_cases, tie_cases, page_again_cases, limit_cases, large_cases,
-                 random_cases, random_limit_cases):
+    for part in (course_cases, refusal_cases, page_refusal_cases, tie_cases, moves_cases, fresh_cases,
+                 refused_at_equal_time_cases, many_ties_cases, page_again_cases, limit_cases, long_chain_cases,
+                 tied_chain_cases, large_cases, random_cases, random_limit_cases):
         part(cases)
+    cases.check_needs()
     stream = b''.join(cases.stream)
     text = ''.join(line + '\n' for line in cases.lines).encode('ascii')
     keep(f'{cases.searches:,} searches', [(FOLDER / 'stdin', stream), (FOLDER / 'stdout', text)])

@@ -1,17 +1,17 @@
-"""The panel's call, written from document 02, C-12.
+"""The panel's call, written from document 02, C-12 and C-14.
 
     answers(image, source, strip, stations)          -> the float for each of the stations
     check(image, source, strip, stations, floats)    stops by an AssertionError where a float is not what it ought to be
 
 `answers` looks into the outcome of the DF search of searches.py. `check` takes no step of a search: as demands.py does,
-it takes least times from rounds over all open moves, and the refusals from the documents' sentences.
+it takes least ways from rounds over all open moves, and the refusals from the documents' sentences.
 """
-from demands import Map, first_refusal, least_times
+from demands import Map, first_refusal, least_ways
 from reader import parse
 from searches import NO_TIME, df
 
 # "with tables of its own": they have room for every map
-TABLES = (2048,) * 4
+TABLES = (2048,) * 5
 
 # that of 2,047 moves of 65,535 tenths
 GREATEST_TIME = 134150145
@@ -42,9 +42,10 @@ def answers(image, source, strip, stations):
     return [answer(parts[1], outcome, station) for station in stations]
 
 
-def refused_page(yard, times):
-    """"That of the station, of all on bad pages, least by time and then number": its refusal, or None."""
-    bad = [(time, s) for s, time in times.items() if yard.is_bad(s)]
+def refused_page(yard, ways):
+    """"That of the station, of all on bad pages, least by time and then number", and by moves between, C-14: its
+    refusal, or None."""
+    bad = [(way, s) for s, way in ways.items() if yard.is_bad(s)]
     return yard.faults[yard.directory[min(bad)[1]]][0] if bad else None
 
 
@@ -54,8 +55,9 @@ def by_walks(image, source, strip, stations):
     if first:
         return [-100 - first[0]] * len(stations)
     yard = Map(image, strip)
-    times = least_times(yard, source)
-    page = refused_page(yard, times)
+    ways = least_ways(yard, source)
+    times = {s: time for s, (time, _) in ways.items()}
+    page = refused_page(yard, ways)
     found = times if page is None else dict.fromkeys(range(yard.n), -100 - page)
     return [found.get(s, -1) if s < yard.n else -106 for s in stations]
 

@@ -1,23 +1,24 @@
-"""The plain search (Dijkstra's) and the DF search, written from document 01, "The two searches", and document 02, C-11.
+"""The plain search (Dijkstra's) and the DF search, written from document 01, "The two searches", and document 02, C-11
+and C-14.
 
     plain(image, source, strip, lengths)    -> Outcome
     df(image, source, strip, lengths)       -> Outcome
 
-`strip` is the strip's length in decimetres; `lengths` are those of the four lent tables: times, predecessors, marks,
-page list. demands.py holds the outcomes against what the documents promise, by other means.
+`strip` is the strip's length in decimetres; `lengths` are those of the five lent tables: times, moves, predecessors,
+marks, page list. demands.py holds the outcomes against what the documents promise, by other means.
 """
 from collections import namedtuple
 
 from reader import parse, read_page
 
-NO_TIME = 4294967295
+NO_TIME, NO_MOVES = 4294967295, 65535
 SOURCE, NOBODY = 65534, 65535
 
 # answer: ('accepted', count, reached), ('refused', number), ('refused', 5, station) or
 #         ('refused', number, page, offset, count).
-# times, predecessors, marks: the entries written, from the first on: one for each station, or none at all.
+# times, moves, predecessors, marks: the entries written, from the first on: one for each station, or none at all.
 # list: the page references made.
-Outcome = namedtuple('Outcome', 'answer times predecessors marks list')
+Outcome = namedtuple('Outcome', 'answer times moves predecessors marks list')
 
 
 class BadPage(Exception):
@@ -25,25 +26,32 @@ class BadPage(Exception):
 
 
 def untouched(*answer):
-    return Outcome(('refused',) + answer, [], [], [], [])
+    return Outcome(('refused',) + answer, [], [], [], [], [])
 
 
 class Search:
-    """The state of a search, and what both searches do alike."""
+    """The state of a search, and what both searches do alike.
+
+    A station that has a time has a way: the time and the number of moves.
+    """
 
     def __init__(self, n, directory, pages, source, strip):
         self.n, self.directory, self.pages, self.strip = n, directory, pages, strip
-        # "At the start the source has time 0 and nothing is settled or fresh."
-        self.time = {source: 0}
+        # "At the start the source has time 0 and nothing is settled or fresh.": its way is of no move
+        self.way = {source: (0, 0)}
         self.predecessor = {source: SOURCE}
         self.settled, self.fresh = set(), set()
         self.open = {source}  # the stations that have a time and are not settled
         self.list = []
         self.contents = {}  # what was read of each page: its stations with their moves
 
+    def rank(self, way):
+        """What is compared of a way. "Less means less time, then fewer moves", and so Python compares pairs."""
+        return way
+
     def least(self, stations):
-        """The station of least time, then lowest number."""
-        return min(stations, key=lambda s: (self.time[s], s))
+        """The station of least time, then fewest moves, then lowest number."""
+        return min(stations, key=lambda s: (self.rank(self.way[s]), s))
 
     def refer(self, p):
         """Appends a page to the list and reads it."""
@@ -56,15 +64,17 @@ class Search:
         return self.contents[p]
 
     def relax(self, u, v, time):
-        total = self.time[u] + time
+        before, moves = self.way[u]
+        total = before + time, moves + 1
         # "If v has no time, or sum is less, v gets sum and predecessor u, and v is not fresh."
-        if v not in self.time or total < self.time[v]:
-            self.time[v], self.predecessor[v] = total, u
+        if v not in self.way or self.rank(total) < self.rank(self.way[v]):
+            self.way[v], self.predecessor[v] = total, u
             self.fresh.discard(v)
             if v not in self.settled:
                 self.open.add(v)
-        # "If sum equals v's time and u is below v's predecessor, only the predecessor becomes u"
-        elif total == self.time[v] and u < self.predecessor[v]:
+        # "If sum equals v's time and u is below v's predecessor, only the predecessor becomes u", but "Two ways are now
+        # equal only if time and number of moves agree."
+        elif self.rank(total) == self.rank(self.way[v]) and u < self.predecessor[v]:
             self.predecessor[v] = u
 
     def relax_moves(self, u, content):
@@ -74,7 +84,7 @@ class Search:
                 self.relax(u, v, time)
 
     def settle_next(self):
-        """"Choose the unsettled station of least time, then lowest number" and settle it."""
+        """"Choose the unsettled station of least time, then lowest number", by C-14's order, and settle it."""
         u = self.least(self.open)
         self.open.remove(u)
         self.settled.add(u)
@@ -96,7 +106,7 @@ def df_step(search):
     search.relax_moves(u, content)
     # "Then, while this page has a station that has a time and isn't fresh, take the one of least time, .."
     while True:
-        stale = [s for s in content if s in search.time and s not in search.fresh]
+        stale = [s for s in content if s in search.way and s not in search.fresh]
         if not stale:
             return
         s = search.least(stale)
@@ -104,7 +114,7 @@ def df_step(search):
         search.relax_moves(s, content)
 
 
-def run(step, image, source, strip, lengths):
+def run(step, image, source, strip, lengths, kind=Search):
     parts = parse(image)
     if parts[0] == 'refused':
         return untouched(*parts[1:])
@@ -113,18 +123,19 @@ def run(step, image, source, strip, lengths):
         return untouched(6)
     if any(length < n for length in lengths):
         return untouched(7)
-    search = Search(n, directory, pages, source, strip)
+    search = kind(n, directory, pages, source, strip)
     try:
         while search.open:  # "if none has a time, end"
             step(search)
     except BadPage as bad:
         p, number, offset = bad.args
         answer = ('refused', number, p, offset, len(search.list))
-        return Outcome(answer, [NO_TIME] * n, [NOBODY] * n, [0] * n, search.list)
-    answer = ('accepted', len(search.list), len(search.time))
-    times = [search.time.get(s, NO_TIME) for s in range(n)]
+        # "times all none, predecessors all 65,535, marks 0", and "a page refusal fills its first N with 65,535"
+        return Outcome(answer, [NO_TIME] * n, [NO_MOVES] * n, [NOBODY] * n, [0] * n, search.list)
+    answer = ('accepted', len(search.list), len(search.way))
+    times, moves = zip(*[search.way.get(s, (NO_TIME, NO_MOVES)) for s in range(n)])
     predecessors = [search.predecessor.get(s, NOBODY) for s in range(n)]
-    return Outcome(answer, times, predecessors, [0] * n, search.list)
+    return Outcome(answer, list(times), list(moves), predecessors, [0] * n, search.list)
 
 
 def plain(image, source, strip, lengths):

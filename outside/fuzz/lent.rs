@@ -42,10 +42,11 @@ pub fn answer(random: &mut Random) -> Lent<u32> {
     Lent::new(length, || random.word() as u32)
 }
 
-/// The four tables of a search.
+/// The five tables of a search.
 #[derive(Clone, PartialEq)]
 pub struct LentTables {
     pub times: Lent<u32>,
+    pub moves: Lent<u16>,
     pub preds: Lent<u16>,
     pub marks: Lent<u8>,
     pub list: Lent<u8>,
@@ -55,22 +56,36 @@ impl LentTables {
     /// Tables for n stations: exact, longer, and now and then too short.
     pub fn new(n: usize, random: &mut Random) -> Self {
         let short = random.one_in(25);
-        let lengths = [0; 4].map(|_| length(n, short, random));
+        let [times, moves, preds, marks, list] = [0; 5].map(|_| length(n, short, random));
         LentTables {
-            times: Lent::new(lengths[0], || random.word() as u32),
-            preds: Lent::new(lengths[1], || random.word() as u16),
-            marks: Lent::new(lengths[2], || random.byte()),
-            list: Lent::new(lengths[3], || random.byte()),
+            times: Lent::new(times, || random.word() as u32),
+            moves: Lent::new(moves, || random.word() as u16),
+            preds: Lent::new(preds, || random.word() as u16),
+            marks: Lent::new(marks, || random.byte()),
+            list: Lent::new(list, || random.byte()),
         }
     }
 
     pub fn lend(&mut self) -> Tables<'_> {
         Tables {
             times: self.times.lend(),
+            moves: self.moves.lend(),
             preds: self.preds.lend(),
             marks: self.marks.lend(),
             list: self.list.lend(),
         }
+    }
+
+    /// Whether all but the moves have an entry for each of n stations.
+    pub fn moves_alone_short(&self, n: usize) -> bool {
+        let (times, preds) = (self.times.entries().len(), self.preds.entries().len());
+        let (marks, list) = (self.marks.entries().len(), self.list.entries().len());
+        self.moves.entries().len() < n && [times, preds, marks, list].iter().all(|&length| length >= n)
+    }
+
+    /// Time and moves of each station, in pairs, and what is lent behind them.
+    pub fn times_and_moves(&self) -> Vec<(u32, u16)> {
+        self.times.entries().iter().copied().zip(self.moves.entries().iter().copied()).collect()
     }
 }
 
@@ -98,6 +113,7 @@ impl Outcome {
         let tables = (&self.tables, &wanted.tables);
         let unlike = (self.answer.unlike("answer", &wanted.answer))
             .or_else(|| tables.0.times.unlike("times", &tables.1.times))
+            .or_else(|| tables.0.moves.unlike("moves", &tables.1.moves))
             .or_else(|| tables.0.preds.unlike("predecessors", &tables.1.preds))
             .or_else(|| tables.0.marks.unlike("marks", &tables.1.marks))
             .or_else(|| tables.0.list.unlike("list", &tables.1.list));

@@ -1,6 +1,6 @@
 //! The examples that document 01 prints with their answers: the table of refusals, course cases C1 to C10 and the
-//! bounds named beside them; and what document 02 says of limits and the panel, on these maps and on pages made for it.
-//! They are held against the reference as well as the engine, so that both hang on the paper.
+//! bounds named beside them; and what document 02 says of limits, the panel and the number of moves, on these maps and
+//! on maps made for it. They are held against the reference as well as the engine, so that both hang on the paper.
 
 use outside::maps::Map;
 use outside::reference::lists::one_page_reads;
@@ -48,7 +48,7 @@ pub fn compare() -> Result<usize, String> {
     let mut tried = 0;
     for (name, calls) in [("reference", REFERENCE), ("engine", ENGINE)] {
         let document_01 = [headings(&calls), pages(&calls), course(&calls), routes(&calls), bounds(&calls)];
-        let document_02 = [limits(&calls), panel(&calls)];
+        let document_02 = [limits(&calls), panel(&calls), fewer_moves(&calls), tables(&calls)];
         let examples: Vec<_> = document_01.into_iter().chain(document_02).flatten().collect();
         if let Some((example, _)) = examples.iter().find(|(_, holds)| !holds) {
             return Err(format!("{name}: {example}"));
@@ -101,7 +101,7 @@ fn headings(calls: &Calls) -> Examples {
 }
 
 fn list_of_none(calls: &Calls, image: &[u8]) -> Answer {
-    let tables = Tables { times: &mut [7], preds: &mut [7], marks: &mut [7], list: &mut [] };
+    let tables = Tables { times: &mut [7], moves: &mut [7], preds: &mut [7], marks: &mut [7], list: &mut [] };
     (calls.search)(Search::Df, image, from(0), tables)
 }
 
@@ -128,16 +128,19 @@ fn pages(calls: &Calls) -> Examples {
 struct Given {
     answer: Answer,
     times: Vec<u32>,
+    moves: Vec<u16>,
     preds: Vec<u16>,
     list: Vec<u8>,
 }
 
 fn search(calls: &Calls, kind: Search, image: &[u8], query: Query, n: usize) -> Given {
-    let (mut times, mut preds, mut marks, mut list) = (vec![7; n], vec![7; n], vec![7; n], vec![7; n]);
-    let tables = Tables { times: &mut times, preds: &mut preds, marks: &mut marks, list: &mut list };
+    let (mut times, mut moves, mut preds) = (vec![7; n], vec![7; n], vec![7; n]);
+    let (mut marks, mut list) = (vec![7; n], vec![7; n]);
+    let tables =
+        Tables { times: &mut times, moves: &mut moves, preds: &mut preds, marks: &mut marks, list: &mut list };
     let answer = (calls.search)(kind, image, query, tables);
     list.truncate(answer.count as usize);
-    Given { answer, times, preds, list }
+    Given { answer, times, moves, preds, list }
 }
 
 fn m7() -> Vec<u8> {
@@ -269,5 +272,49 @@ fn panel(calls: &Calls) -> Examples {
         ("panel: limit 8,120, strip 8,120", limited(8_120, 7.0, 3.0)),
         ("panel: limit 8,120, strip 8,121", limited(8_121, 9.0, -1.0)),
         ("panel: greatest time", shows(&full(&chain), from(0), 2_047, 134_150_145.0)),
+    ]
+}
+
+/// "Crane drivers prefer, at equal time, the way with fewer moves": choosing, relaxing, freshness and the refused page.
+fn fewer_moves(calls: &Calls) -> Examples {
+    let run = |kind, image: &[u8]| search(calls, kind, image, from(0), usize::from(image[0]));
+    // Station 2 in time 3: 0-3-1-2, 0-4-2 and, where it is there, 0-3-2. By time alone 1 would be its predecessor.
+    let moves = [(0, 3, 1), (3, 1, 1), (1, 2, 1), (0, 4, 2), (4, 2, 1), (3, 2, 2)];
+    let [two, three] = [5, 6].map(|count| run(Search::Df, &drawn(1, vec![0; 5], &moves[..count])));
+    // Stations 1 and 2 in time 2, by two moves and by one; each on a page of its own.
+    let apart = drawn(3, vec![0, 1, 2, 0], &[(0, 3, 1), (3, 1, 1), (0, 2, 2)]);
+    let mut spoiled = apart.clone();
+    spoiled[4 + 4 + 256] = 7;
+    spoiled[4 + 4 + 512] = 7;
+    let (plain, bad) = (run(Search::Plain, &apart), run(Search::Df, &spoiled));
+    // While page 0 is in hand station 3 has time 3 by three moves; 0-4-3 takes as long and has two.
+    let again = drawn(2, vec![0, 0, 0, 0, 1], &[(0, 1, 1), (0, 4, 1), (1, 2, 1), (2, 3, 1), (4, 3, 2)]);
+    let (again, m7) = (run(Search::Df, &again), run(Search::Df, &m7()));
+    vec![
+        ("moves: C1", m7.moves == [0, 1, 2, 3, 1, 2, 3]),
+        ("moves: fewer at an equal time", two.times[2] == 3 && two.moves == [0, 2, 2, 1, 1] && two.preds[2] == 4),
+        ("moves: lowest of those that give both", three.moves == two.moves && three.preds[2] == 3),
+        ("moves: choosing", plain.list == [0, 0, 2, 1] && run(Search::Df, &apart).list == [0, 2, 1]),
+        ("moves: the refused page", bad.list == [0, 2] && bad.answer == Answer { count: 2, ..refused(8, 2, 0) }),
+        ("moves: a station no longer fresh", again.list == [0, 1, 0] && again.moves == [0, 1, 2, 2, 1]),
+    ]
+}
+
+/// "A fifth table, u16 moves per station (none 65,535), is lent; a short one is refusal 7, and a page refusal fills its
+/// first N with 65,535."
+fn tables(calls: &Calls) -> Examples {
+    let run = |image: &[u8], source| search(calls, Search::Df, image, from(source), usize::from(image[0]));
+    let mut kept = [7; 4];
+    let short = |moves: &mut [u16]| {
+        let tables = Tables { times: &mut [7; 7], moves, preds: &mut [7; 7], marks: &mut [7; 7], list: &mut [7; 7] };
+        (calls.search)(Search::Plain, &m7(), from(0), tables)
+    };
+    let chain: Vec<_> = (0..2047).map(|station| (station, station + 1, 65_535)).collect();
+    let chain = search(calls, Search::Df, &full(&chain), from(0), 2048);
+    vec![
+        ("moves: none", run(&m7(), 6).moves == [65535, 65535, 65535, 65535, 65535, 65535, 0]),
+        ("moves: 7", short(&mut kept) == refused(7, 0, 0) && kept == [7; 4]),
+        ("moves: C7", run(&spoiled_m7(), 0).moves == [65535; 7]),
+        ("moves: the most", chain.moves[2047] == 2047 && chain.times[2047] == 134_150_145),
     ]
 }

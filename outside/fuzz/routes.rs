@@ -1,6 +1,6 @@
 //! Routes: by the predecessors that a search left, to all stations, and by predecessor tables of any content.
 
-use crate::lent::{self, Lent};
+use crate::lent::{self, Lent, LentTables};
 use crate::tally::{Call, Tally};
 use outside::maps::cases::RouteCase;
 use outside::random::Random;
@@ -16,27 +16,31 @@ pub fn compare(case: &RouteCase, random: &mut Random, tally: &mut Tally) -> Resu
     compare_one(&routes, &case.preds, case.station, random, tally).map(|_| ())
 }
 
-/// The routes to all stations after a search; each has to be a walk that takes the station's time (demand 2).
+/// The routes to all stations after a search; each has to be a walk that takes the station's time (demand 2) and has as
+/// many moves as it has.
 pub fn compare_all(
-    preds: &Lent<u16>,
-    times: &[u32],
+    tables: &LentTables,
     legs: &[Leg],
     stations: usize,
     random: &mut Random,
     tally: &mut Tally,
 ) -> Result<(), String> {
     // The caller may hand over just the map's entries or the whole table.
-    let preds = if random.one_in(2) { preds.entries() } else { &preds.entries()[..stations] };
-    let moves: HashMap<(u16, u16), u64> =
+    let preds = tables.preds.entries();
+    let preds = if random.one_in(2) { preds } else { &preds[..stations] };
+    let steps: HashMap<(u16, u16), u64> =
         legs.iter().map(|leg| ((leg.from, leg.target), u64::from(leg.time))).collect();
     let routes = Routes::new(preds);
-    for (station, &time) in times[..stations].iter().enumerate() {
+    for (station, &(time, moves)) in tables.times_and_moves()[..stations].iter().enumerate() {
         let route = compare_one(&routes, preds, station as u16, random, tally)
             .map_err(|difference| format!("route to {station}: {difference}"))?;
         let Some(route) = route else { continue };
-        let taken: Option<u64> = route.windows(2).map(|pair| moves.get(&(pair[0], pair[1]))).sum();
+        let taken: Option<u64> = route.windows(2).map(|pair| steps.get(&(pair[0], pair[1]))).sum();
         if time == NO_TIME || taken != Some(u64::from(time)) {
             return Err(format!("the route to {station} takes {taken:?}, its time is {time}"));
+        }
+        if route.len() != usize::from(moves) + 1 {
+            return Err(format!("the route to {station} has {} stations for {moves} moves", route.len()));
         }
     }
     Ok(())

@@ -1,5 +1,5 @@
 //! One image, source and set of tables: whole check; for each of two strips both searches, the panel, demand 3 and the
-//! routes by the predecessors left; and the times for the one strip against those for the other.
+//! routes by the predecessors left; and the times and moves for the one strip against those for the other.
 
 use crate::lent::{self, Lent, LentTables, Outcome};
 use crate::panels;
@@ -52,10 +52,12 @@ pub fn compare(case: &Case, random: &mut Random, tally: &mut Tally) -> Result<()
     let [short, long] = case.strips;
     let shorter = compare_both(case, short, &tables, random, tally)?;
     let longer = compare_both(case, long, &tables, random, tally)?;
-    compare_times(&shorter, &longer, tally)?;
+    compare_strips(&shorter, &longer, tally)?;
     let Ok(image) = Image::open(&case.image) else { return Ok(()) };
     let pages = walks::read_all(&image);
     compare_pages(&image, &pages, case)?;
+    let one_short = tables.moves_alone_short(image.stations) && shorter.df.answer.refusal == 7;
+    tally.note("refused 7, only the table of moves too short", one_short);
     for both in [shorter, longer] {
         if !matches!(both.df.answer.refusal, 6 | 7) {
             compare_demands(&image, &pages, &both, random, tally)
@@ -172,11 +174,13 @@ fn compare_demands(
     tally.search(image, pages, plain.list(), df.list(), accepted);
     let all_open = Query { strip: 0, ..*query };
     tally.closed(walks::legs(pages, 0).len() - legs.len(), &truth, &walks::truth(image, pages, all_open));
-    let times = df.outcome.tables.times.entries();
-    routes::compare_all(&df.outcome.tables.preds, times, &legs, image.stations, random, tally)
+    let by_time = walks::truth_by_time_alone(image, pages, *query);
+    let df_by_time = letter::df_list_by_time_alone(image, *query);
+    tally.fewer_moves((&truth, df.list()), (&by_time, &df_by_time));
+    routes::compare_all(&df.outcome.tables, &legs, image.stations, random, tally)
 }
 
-/// Times, predecessors, number reached, refused page and Dijkstra's list by the other method.
+/// Times, moves, predecessors, number reached, refused page and Dijkstra's list by the other method.
 fn compare_truth(image: &Image, truth: &Truth, plain: &Agreed, df: &Agreed) -> Result<(), String> {
     if plain.list() != truth.plain_list {
         return Err("the plain list is not the settled stations' pages".into());
@@ -192,6 +196,9 @@ fn compare_truth(image: &Image, truth: &Truth, plain: &Agreed, df: &Agreed) -> R
         if tables.times.entries()[..image.stations] != truth.times {
             return Err(format!("{name}: times are not the least"));
         }
+        if tables.moves.entries()[..image.stations] != truth.moves {
+            return Err(format!("{name}: moves are not the fewest"));
+        }
         if tables.preds.entries()[..image.stations] != truth.preds {
             return Err(format!("{name}: predecessors are not the lowest"));
         }
@@ -202,8 +209,13 @@ fn compare_truth(image: &Image, truth: &Truth, plain: &Agreed, df: &Agreed) -> R
     Ok(())
 }
 
-/// Demand 3 of an accepted search: entries left out, entry stations, reads with one page held.
+/// Demand 3 of an accepted search: entries left out, entry stations, reads with one page held. All else that Dijkstra's
+/// search leaves is the same.
 fn compare_lists(image: &Image, legs: &[Leg], source: u16, plain: &Agreed, df: &Agreed) -> Result<(), String> {
+    let (ours, dijkstras) = (&df.outcome.tables, &plain.outcome.tables);
+    if ours.times != dijkstras.times || ours.moves != dijkstras.moves || ours.preds != dijkstras.preds {
+        return Err("plain and DF differ in times, moves or predecessors".into());
+    }
     let (ours, dijkstras) = (df.list(), plain.list());
     if !is_left_of(ours, dijkstras) {
         return Err("the DF list is not the plain list with entries left out".into());
@@ -221,18 +233,25 @@ fn compare_lists(image: &Image, legs: &[Leg], source: u16, plain: &Agreed, df: &
     Ok(())
 }
 
-/// "For two lengths on one map from one source, both accepted, the longer never has a lesser time"; none is above all.
-fn compare_times(shorter: &Both, longer: &Both, tally: &mut Tally) -> Result<(), String> {
+/// "For two lengths on one map from one source, both accepted, the longer never has a lesser time", none being above
+/// all; and at an equal time it never has fewer moves.
+fn compare_strips(shorter: &Both, longer: &Both, tally: &mut Tally) -> Result<(), String> {
     for (name, shorter, longer) in [("plain", &shorter.plain, &longer.plain), ("DF", &shorter.df, &longer.df)] {
         if shorter.answer.refusal != 0 || longer.answer.refusal != 0 {
             continue;
         }
-        let times = || shorter.outcome.tables.times.entries().iter().zip(longer.outcome.tables.times.entries());
-        if let Some(station) = times().position(|(shorter, longer)| longer < shorter) {
-            return Err(format!("{name}: station {station} has a lesser time for the longer strip"));
+        let [shorter, longer] = [shorter, longer].map(|agreed| agreed.outcome.tables.times_and_moves());
+        let mut both = shorter.iter().zip(&longer);
+        if let Some(station) = both.clone().position(|(shorter, longer)| longer < shorter) {
+            return Err(format!(
+                "{name}: station {station} has {:?} as time and moves for the longer strip, {:?} for the shorter",
+                longer[station], shorter[station]
+            ));
         }
-        let greater = times().any(|(shorter, longer)| longer > shorter);
+        let greater = both.clone().any(|(shorter, longer)| longer.0 > shorter.0);
         tally.note("two strips accepted, a greater time for the longer", greater);
+        let more = both.any(|(shorter, longer)| longer.0 == shorter.0 && longer.1 > shorter.1);
+        tally.note("two strips accepted, an equal time and more moves for the longer", more);
     }
     Ok(())
 }

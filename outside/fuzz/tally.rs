@@ -1,11 +1,11 @@
 //! What came up in a run: how often each call gave each refusal, of which kinds the cases were, and how often the
-//! searches and the panel did what is easily got wrong or had moves closed.
+//! searches and the panel did what is easily got wrong, had moves closed or went by the number of moves.
 
 use outside::reference::image::Image;
 use outside::reference::lists::one_page_reads;
 use outside::reference::panel::{Inside, Panel};
 use outside::reference::walks::{Pages, Truth};
-use outside::reference::{Answer, Search};
+use outside::reference::{Answer, Search, NO_MOVES};
 use std::collections::BTreeMap;
 use std::fmt;
 
@@ -68,6 +68,25 @@ impl Tally {
         self.note("some move closed", moves > 0);
         self.note("some move closed, a time or the plain list differs by it", moves > 0 && differs);
         self.note("accepted, refused if every move were open", truth.refused.is_none() && all_open.refused.is_some());
+    }
+
+    /// What the number of moves did to a search, beside what it would give if it went by time alone; each with its DF
+    /// list.
+    pub fn fewer_moves(&mut self, (truth, df): (&Truth, &[u8]), (by_time, df_by_time): (&Truth, &[u8])) {
+        let accepted = truth.refused.is_none();
+        let differences = [
+            ("by time alone: another predecessor", accepted && truth.preds != by_time.preds),
+            ("by time alone: another plain list", truth.plain_list != by_time.plain_list),
+            ("by time alone: another DF list", df != df_by_time),
+            ("by time alone: a DF list of another length", df.len() != df_by_time.len()),
+            ("by time alone: another page refused", truth.refused != by_time.refused),
+        ];
+        for (note, differs) in differences {
+            self.note(note, differs);
+        }
+        self.note("by time alone: any of these", differences.iter().any(|&(_, differs)| differs));
+        let most = truth.moves.iter().filter(|&&moves| moves != NO_MOVES).max();
+        self.note("accepted, a way of 1,000 moves or more", most.is_some_and(|&moves| moves >= 1000));
     }
 
     /// What the panel showed for a station.

@@ -1,9 +1,10 @@
-//! Maps as one draws them, and their bytes. `good` draws maps, `damage` spoils them, `cases` makes the cases of the
-//! fuzzer of both.
+//! Maps as one draws them, and their bytes. `good` draws maps, some of them in `yards`, `damage` spoils them, `cases`
+//! makes the cases of the fuzzer of both.
 
 pub mod cases;
 pub mod damage;
 pub mod good;
+pub mod yards;
 
 use crate::reference::image::Move;
 

@@ -1,7 +1,7 @@
-//! Document 01 once more, with the limits of document 02, in Rust and from their words alone: the whole check and page
-//! reader (`image`), both searches step by step (`letter`), what a search has to give by an altogether different
-//! method (`walks`), the words of demand 3 (`lists`), the route (`route`) and document 02's panel (`panel`). Slow and
-//! plain on purpose: it is there to be read and believed.
+//! Document 01 once more, with the limits and the numbers of moves of document 02, in Rust and from their words alone:
+//! the whole check and page reader (`image`), both searches step by step (`letter`), what a search has to give by an
+//! altogether different method (`walks`), the words of demand 3 (`lists`), the route (`route`) and document 02's panel
+//! (`panel`). Slow and plain on purpose: it is there to be read and believed.
 
 pub mod image;
 pub mod letter;
@@ -12,6 +12,8 @@ pub mod walks;
 
 /// The time of a station that has none.
 pub const NO_TIME: u32 = 4_294_967_295;
+/// The number of moves of a station that has no time.
+pub const NO_MOVES: u16 = 65_535;
 /// The predecessor of the source.
 pub const SOURCE: u16 = 65_534;
 /// The predecessor of a station that has no time.
@@ -30,9 +32,10 @@ pub struct Query {
     pub strip: u16,
 }
 
-/// The four tables lent to a search.
+/// The five tables lent to a search.
 pub struct Tables<'a> {
     pub times: &'a mut [u32],
+    pub moves: &'a mut [u16],
     pub preds: &'a mut [u16],
     pub marks: &'a mut [u8],
     pub list: &'a mut [u8],

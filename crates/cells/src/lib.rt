@@ -25,7 +25,7 @@ fn pack(cost: u64, station: usize) -> u64
     cost * (STATIONS as u64) + (station as u64)
 }
 
-// Whether `sum` is less than the cost in a cell.
+// Whether `sum` is less than the cost in a cell: less time, or the same time and fewer moves.
 fn lowers(sum: u64, cell: u64) -> bool
     ensures value { λ r. ⌜ r ≡ ltb sum (cell / 2048) ⌝ }
 {

@@ -1,3 +1,4 @@
 pub mod Numbers
+pub mod Costs
 pub mod Pick
 pub mod Window

@@ -1,9 +1,14 @@
--- The numbers that stand for nothing in a table or a key (01, "The two searches"); src/lib.rt has them for the code.
+-- The numbers that stand for nothing in a table or a key (01, "The two searches"; C-14); src/lib.rt has them for the
+-- code.
 use Prim.Native.Nat.{ℕ}
 
 -- "times (none is 4,294,967,295)"
 abbrev pub noTime : ℕ
 noTime = 4294967295
+
+-- C-14: "moves per station (none 65,535)"
+abbrev pub noMoves : ℕ
+noMoves = 65535
 
 -- "predecessors (source 65,534; none 65,535; ..)"
 abbrev pub sourceMark : ℕ

@@ -33,7 +33,7 @@ closing = record { at-the-first = refl; above-the-first = refl; at-the-second = 
 
 -- To so long a strip the stations of page 0 offer moves among themselves only.
 abbrev to : ℕ → ℕ → Move
-to v w = record { target = v; weight = w }
+to v w = record { target = v; time = w }
 
 abbrev moves : ℕ → List Move
 moves = movesOf (mapPage 12001 m7Limited 0)
@@ -55,9 +55,9 @@ stays (suc (suc zero)) v w h g = omega (arith, only v w (rw (offers .2) at g))
 stays (suc (suc (suc zero))) v w h g = absurd (List·Memᴰ·not-nil (rw (offers .3) at g))
 stays (suc (suc (suc (suc u)))) v w h g = absurd (omega arith)
 
-within : {v c : ℕ} → Walk (mapFrame m7Limited) (mapPage 12001 m7Limited) 0 v c → v < 4
+within : {v t m : ℕ} → Walk (mapFrame m7Limited) (mapPage 12001 m7Limited) 0 v t m → v < 4
 within here = omega arith
 within (onward {u = u} v w walk g) = stays u v w (within walk) g
 
-pub no-walk-to-6 : (c : ℕ) → Walk (mapFrame m7Limited) (mapPage 12001 m7Limited) 0 6 c → ⊥
-no-walk-to-6 c walk = let h : 6 < 4 = within walk in omega arith
+pub no-walk-to-6 : (t m : ℕ) → Walk (mapFrame m7Limited) (mapPage 12001 m7Limited) 0 6 t m → ⊥
+no-walk-to-6 t m walk = let h : 6 < 4 = within walk in omega arith

@@ -3,8 +3,9 @@
 use Rattle.common.proofs.Ground.{_≡_, refl, ap, sym, _∙_, false, true≢false, List, [], _∷_, List·Memᴰ, List·Memᴰ·head}
 use Rattle.common.proofs.Ground.{List·Memᴰ·tail, Sublistᴰ, Sublistᴰ·cons, Sublistᴰ·cons-cons, Sublistᴰ·eq-nil, ℕ, _≤_}
 use Rattle.common.proofs.Ground.{_<_, arith, getD, take}
-use Rattle.common.specs.Numbers.{noTime}
+use Rattle.common.specs.Numbers.{noTime, sourceMark}
 use Rattle.net.specs.Net.{isGood, Walk, here, onward, count, timesIn, movesTo, entersFrom, isEntry, entryStations}
+use Rattle.net.specs.Demands.{Spells, at-source, step}
 use Rattle.net.specs.Search.{least, iter, reached, start, choose, chooseOn, readFor, relax, relaxAll, visit}
 use Rattle.net.specs.Search.{workTurn, workThrough}
 use Rattle.net.specs.Search.{plainVisit, dfVisit, stepBy, searchBy, plainSearch, dfSearch}
@@ -20,15 +21,18 @@ use Rattle.map.specs.Map.{mapFrame, mapPage}
 use Rattle.reply.specs.Reply.{asked, Handed, callCheck, onMap, searched, listOf}
 use Rattle.search.specs.Promises.{SameLengths}
 use Rattle.course.specs.Cases.{m7, m7Bad, lentFor, courseStrip, ours, dijkstras}
+use Rattle.course.specs.Moves.{shortCut}
 use Rattle.course.specs.Wrong.{Wrong, Refused, wrongVersions, refusesAll, dijkstrasOwnList, pageLeftOut}
 use Rattle.course.specs.Wrong.{pageThatDijkstrasLacks, otherReachedCount, fixedAnswer, tablesUntouched, noneLeft}
-use Rattle.course.specs.Wrong.{merelySettles, badPageWithoutMoves, fasterWithLonger}
+use Rattle.course.specs.Wrong.{merelySettles, badPageWithoutMoves, fasterWithLonger, moreMoves}
+use Rattle.course.specs.Wrong.{predecessorByTime}
 
 -- What the definitions compute for M7 and for M7 with page 1 bad.
 record Computed : Type 0 where
-  to-1 : Walk (mapFrame m7) (mapPage courseStrip m7) 0 1 4
-  to-2-through-4 : Walk (mapFrame m7) (mapPage courseStrip m7) 0 2 3
-  to-4 : Walk (mapFrame m7Bad) (mapPage courseStrip m7Bad) 0 4 2
+  to-1 : Walk (mapFrame m7) (mapPage courseStrip m7) 0 1 4 1
+  to-2-through-4 : Walk (mapFrame m7) (mapPage courseStrip m7) 0 2 3 2
+  to-4 : Walk (mapFrame m7Bad) (mapPage courseStrip m7Bad) 0 4 2 1
+  short-cut : Walk (mapFrame shortCut) (mapPage courseStrip shortCut) 0 3 4 2
   page-1-is-bad : isGood (mapPage courseStrip m7Bad 1) ≡ false
   entries-of-page-0 : entryStations (mapFrame m7) (mapPage courseStrip m7) 0 (0 ∷ 1 ∷ 0 ∷ 0 ∷ 0 ∷ 1 ∷ 1 ∷ []) 0 ≡ 2
   outcome : (ours m7 0) .reply .outcome ≡ accepted
@@ -46,6 +50,7 @@ computed = record {
   to-1 = onward 1 4 here (List·Memᴰ·head refl);
   to-2-through-4 = onward 2 1 (onward 4 2 here (List·Memᴰ·tail (List·Memᴰ·head refl))) (List·Memᴰ·head refl);
   to-4 = onward 4 2 here (List·Memᴰ·tail (List·Memᴰ·head refl));
+  short-cut = onward 3 3 (onward 2 1 here (List·Memᴰ·head refl)) (List·Memᴰ·tail (List·Memᴰ·head refl));
   page-1-is-bad = refl;
   entries-of-page-0 = refl;
   outcome = refl;
@@ -57,7 +62,7 @@ computed = record {
 
 -- the tables lent to both searches are the same
 same-lengths : SameLengths (lentFor m7) (lentFor m7)
-same-lengths = record { times = refl; preds = refl; marks = refl; list = refl }
+same-lengths = record { times = refl; moves = refl; preds = refl; marks = refl; list = refl }
 
 -- the map is not refused
 refuses-all : Refused refusesAll
@@ -111,21 +116,21 @@ fixed-answer says = let z : _≡_ {A = ℕ} 1 7 = says refl .count in omega arit
 
 -- the empty walk leads to the source in no time, not in 9
 tables-untouched : Refused tablesUntouched
-tables-untouched says = let z : 9 ≤ 0 = says refl .least 0 0 here in omega arith
+tables-untouched says = let z : 9 ≤ 0 = says refl .least 0 0 0 here .0 in omega arith
 
 -- a walk leads to station 1
 none-left : Refused noneLeft
-none-left says = let z : noTime < noTime = says refl .timed 1 4 (computed .to-1) in omega arith
+none-left says = let z : noTime < noTime = says refl .timed 1 4 1 (computed .to-1) in omega arith
 
 -- a walk of time 3 leads to station 2, through 4
 merely-settles : Refused merelySettles
-merely-settles says = let z : 7 ≤ 3 = says refl .least 2 3 (computed .to-2-through-4) in omega arith
+merely-settles says = let z : 7 ≤ 3 = says refl .least 2 3 2 (computed .to-2-through-4) .0 in omega arith
 
 -- a walk leads to station 4, whose page is bad
 bad-page-without-moves : Refused badPageWithoutMoves
 unfolding directoryOf
 bad-page-without-moves says =
-    true≢false (sym (says refl .pages-good 4 2 (computed .to-4)) ∙ computed .page-1-is-bad)
+    true≢false (sym (says refl .pages-good 4 2 1 (computed .to-4)) ∙ computed .page-1-is-bad)
 
 -- with a strip of length 0 the time of station 6 is 9
 faster-with-longer : Refused fasterWithLonger
@@ -133,6 +138,19 @@ faster-with-longer says =
     let z : getD (take 7 ((searched dfSearch (asked m7 0 0) (lentFor m7)) .tables .times)) 6 noTime ≤ 8 =
     says refl 0 (lentFor m7) (omega arith) (computed .shorter) 6 in
     omega (arith, computed .shorter-time)
+
+-- a walk of as much time and fewer moves leads to station 3
+more-moves : Refused moreMoves
+more-moves says = let z : 3 ≤ 2 = says refl .least 3 4 2 (computed .short-cut) .1 refl in omega arith
+
+-- the predecessors spell out a walk of three moves
+predecessor-by-time : Refused predecessorByTime
+unfolding directoryOf
+predecessor-by-time says = three (says refl .spells 3 (omega arith) .1)
+  where
+    three : {t : ℕ}
+        → Spells (mapFrame shortCut) (mapPage courseStrip shortCut) 0 (sourceMark ∷ 2 ∷ 0 ∷ 1 ∷ []) 3 t 2 → ⊥
+    three (step v w e g (step u x f h (at-source k))) = let z : _≡_ {A = ℕ} 2 0 = rw (← e) at f in omega arith
 
 -- All of them, by the table.
 infixr 5 _then_
@@ -145,7 +163,7 @@ unfolding wrongVersions
 all-refused =
     refuses-all then dijkstras-own-list then page-left-out then page-that-dijkstras-lacks then other-reached-count then
     fixed-answer then tables-untouched then none-left then merely-settles then bad-page-without-moves then
-    faster-with-longer then no-more
+    faster-with-longer then more-moves then predecessor-by-time then no-more
 
 by-rows : (rows : List Wrong) → AllRefused rows → (w : Wrong) → List·Memᴰ w rows → Refused w
 by-rows (r ∷ rows) (one then others) w (List·Memᴰ·head e) = rw e one

@@ -74,7 +74,7 @@ pub record Case : Type 0 where
 -- Tables of as many entries as the map has stations; the strip's length in decimetres; and what either search hands
 -- back.
 abbrev pub lentFor : List ℕ → Lent
-lentFor image = let nines : List ℕ = replicate (stationCount image) 9 in lent nines nines nines nines
+lentFor image = let nines : List ℕ = replicate (stationCount image) 9 in lent nines nines nines nines nines
 
 abbrev pub courseStrip : ℕ
 courseStrip = 8120

@@ -3,7 +3,8 @@
 use Rattle.common.proofs.Ground.{_≡_, refl, _≢_, dite, List, ℕ, _+_, _≤_, _<_, arith, ℕ-discrete}
 use Rattle.common.proofs.Ground.{length, getD, replicate, length-replicate, getD-replicate, getD-set-other, eq-eqb}
 use Rattle.common.proofs.Ground.{ne-eqb}
-use Rattle.common.specs.Numbers.{nobody, noTime}
+use Rattle.common.specs.Numbers.{nobody}
+use Rattle.common.specs.Costs.{noCost}
 use Rattle.net.specs.Net.{Frame}
 use Rattle.net.specs.Search.{State, going, costOf, start, iter}
 use Rattle.net.proofs.Runs.{Standing, run-standing, start-waits}
@@ -53,7 +54,7 @@ module _ {q : Serving} {places : List ℕ} (placing : Placing q places) {m : Mem
   unfolding iter
   standing = run-standing (placing .sound) (q .df) 0
 
-  other-time : (v : ℕ) → v < length (q .directory) → v ≢ q .source → costOf F begun v ≡ noTime
+  other-time : (v : ℕ) → v < length (q .directory) → v ≢ q .source → costOf F begun v ≡ noCost
   unfolding start
   other-time v h n = rw (getD-set-other, getD-replicate)
 
@@ -72,7 +73,7 @@ module _ {q : Serving} {places : List ℕ} (placing : Placing q places) {m : Mem
     relaxed-waits r room (placed-at placing _ inside),
     start-waits (placing .sound) (q .df) _,
     eq-eqb (q .source) _ refl,
-    standing .source-time,
+    standing .source-cost,
     nobody-at (q .source) (small _ inside),
     nobody-at _ (placed-at placing _ inside .slot),
   ) (

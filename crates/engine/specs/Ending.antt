@@ -1,4 +1,4 @@
--- How a search that has ended is handed over by the engine: the cells hold its times and predecessors, and the front of
+-- How a search that has ended is handed over by the engine: the cells hold its costs and predecessors, and the front of
 -- the list its page list.
 use mathlib.Core.Path.{_≡_}
 use mathlib.Core.List.{List, _++_}
@@ -13,7 +13,7 @@ use Rattle.engine.specs.declared.Ended.the-variants.{Over, BadPage}
 use Rattle.map.specs.Map.{mapFrame, mapPage}
 use Rattle.work.specs.Board.{CellIs}
 
--- Each station's cell holds its time and predecessor in state s.
+-- Each station's cell holds its cost and predecessor in state s.
 abbrev pub CellsHold : Frame → ℕ → State → List ℕ → Type 0
 CellsHold F source s cells =
     (v : ℕ) → v < F .size → CellIs source v (costOf F s v) (predOf s v) (getD cells v 0)

@@ -1,5 +1,5 @@
 // The engine: both searches as a run of references. While a station waits, the page of the first that does is listed,
-// fetched, and worked on (net/specs/Run.antt). It works on memory of its own: cells, in which each station has its time
+// fetched, and worked on (net/specs/Run.antt). It works on memory of its own: cells, in which each station has its cost
 // and predecessor; the keys by which stations wait; the queue of pages. The moves of a page are rows that the page
 // reader has laid out.
 
@@ -86,7 +86,7 @@ fn run(
     }
 }
 
-// A whole search: the cells, which are nobody's at first, hold its times and predecessors afterwards, and the front of
+// A whole search: the cells, which are nobody's at first, hold its costs and predecessors afterwards, and the front of
 // the list its page list. At the start the source is offered cost 0 in the name of station 0, by which its cell
 // is 0 and it waits; nobody else does.
 pub fn search(query: Query, image: &[u8], cells: &mut [u64], list: &mut [u8]) -> Ended

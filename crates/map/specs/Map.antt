@@ -14,9 +14,9 @@ use Rattle.page.specs.Open.{openTo}
 abbrev pub mapFrame : List ℕ → Frame
 mapFrame image = frame (directoryOf image)
 
--- A move of a page as a move of the net: its weight is its time.
+-- A move of a page as a move of the net, which has no limits.
 abbrev pub netMove : Move → NetMove
-netMove m = record { target = m .target; weight = m .time }
+netMove m = record { target = m .target; time = m .time }
 
 -- A good page offers the moves of its content that are open to the strip; a bad one gives its refusal.
 abbrev pub offered : ℕ → Reading → Page

@@ -1,10 +1,12 @@
--- The laws of both searches, for every net whose moves weigh at least 1 and lead to stations, and any source in it.
--- Each is stated of the searches by the letter of document 01; the proofs are in the other files, for the one
--- comparison, and are carried over here by the first laws.
-use Rattle.common.proofs.Ground.{_≡_, refl, sym, _∙_, ap, ⊎-elim, List, [], _∷_, _++_, Sublistᴰ, ℕ, _+_, _*_, _≤_, _<_}
-use Rattle.common.proofs.Ground.{arith, mul-le-mul, length, getD, ltb, eqb}
+-- The laws of both searches, for every net whose moves lead to stations, and any source in it. Each is stated of the
+-- searches by the letter of document 01, in terms of costs (in terms of times and moves: Ways); the proofs are in the
+-- other files, for the one comparison, and are carried over here by the first laws.
+use Rattle.common.proofs.Ground.{_≡_, refl, sym, _∙_, ⊎-elim, List, [], _∷_, _++_, Sublistᴰ, ℕ, _+_, _≤_, _<_}
+use Rattle.common.proofs.Ground.{arith, mul-le-mul-right, length, getD, ltb, eqb}
 use Rattle.common.proofs.Cases.{le-or-lt}
 use Rattle.net.specs.declared.Choice.the-variants.{Station, Nobody}
+use Rattle.common.specs.Numbers.{noTime}
+use Rattle.common.specs.Costs.{cost, noCost}
 use Rattle.net.specs.Net.{Move, Page, good, Frame, Goes, Walk, here, onward, timesIn, entryStations}
 use Rattle.net.specs.Net.{onePageReads, count}
 use Rattle.net.specs.Search.{State, going, refused, costOf, predOf, isSettled, isFresh, settle, withPage, start}
@@ -12,20 +14,21 @@ use Rattle.net.specs.Search.{reached}
 use Rattle.net.specs.Search.{choose, chooseOn, iter, visit, workTurn, workThrough, plainVisit, dfVisit}
 use Rattle.net.specs.Search.{noneOrLess}
 use Rattle.net.specs.Search.{stepBy, searchBy, plainSearch, dfSearch}
-use Rattle.net.specs.Demands.{LeastTimes, RefusedPage, ListOf, AgreeOn}
+use Rattle.net.specs.Demands.{ListOf, AgreeOn}
 use Rattle.net.proofs.Sound.{Sound}
-use Rattle.net.proofs.After.{afterPlain, afterDf}
+use Rattle.net.proofs.LeastCosts.{LeastCost, LeastCosts, FirstBad}
+use Rattle.net.proofs.Fixed.{spells-walk}
+use Rattle.net.specs.Ways.{afterPlain, afterDf, withinDf, Held}
 use Rattle.net.proofs.Basics.Count.{count-le}
 use Rattle.net.proofs.Basics.Lists.{part-reads}
 use Rattle.net.proofs.Relaxing.Relax.{Tables}
-use Rattle.net.proofs.Relaxing.Labels.{sum-below-none}
+use Rattle.net.proofs.Relaxing.Labels.{Rooted, nearer-below-size, sum-below-none}
 use Rattle.net.proofs.Steps.Choose.{Next}
 use Rattle.net.proofs.Steps.Visits.{plain-settling, df-settling, ready-u, visited-u}
-use Rattle.net.proofs.Steps.PageLoop.{Ready, stationsOn, loop-short, worked-through}
-use Rattle.net.proofs.Searches.Walks.{LeastCost}
+use Rattle.net.proofs.Steps.PageLoop.{Ready, stationsOn, loop-keeps, loop-short, worked-through}
 use Rattle.net.proofs.Searches.Start.{start-unsettled, start-stale}
 use Rattle.net.proofs.Searches.Run.{Reached, chosen-next, run-ends}
-use Rattle.net.proofs.Searches.Answer.{ended-least-times, least-times-fix}
+use Rattle.net.proofs.Searches.Answer.{ended-least-costs}
 use Rattle.net.proofs.Searches.Together.{plain-reached, df-reached, Together, together, together-choose}
 use Rattle.net.proofs.Searches.Together.{chosen-least, chosen-rising}
 use Rattle.net.proofs.Searches.OneComparison.{visit-one, turns-one, loop-one, plain-visit-one, df-visit-one}
@@ -75,7 +78,7 @@ module _ (F : Frame) (page : ℕ → Page) (source : ℕ) (ok : Sound F page sou
   both-hold : (n : ℕ) → Together ok (plainAt n) (dfAt n)
   both-hold n = rw (plain-steps-one-comparison n, df-steps-one-comparison n) (together ok n)
 
-  -- Sizes: an entry for each station, marks below 4, no time above none; after any number of steps, and at the end.
+  -- Sizes: an entry for each station, marks below 4, no cost above none; after any number of steps, and at the end.
   pub plain-steps-sizes : (n : ℕ) → Tables F (plainAt n)
   plain-steps-sizes n = plain-holds n .tables
 
@@ -101,6 +104,22 @@ module _ (F : Frame) (page : ℕ → Page) (source : ℕ) (ok : Sound F page sou
   df-ends = rw (df-steps-one-comparison (F .size))
       (run-ends ok isFresh (dfVisit F ltb page) (df-settling ok) (start F source) (df-reached ok 0))
 
+  -- What a station has is the cost of a walk of fewer moves than there are stations: no search forms another.
+  rooted-held : (s : State) → Rooted ok (costOf F s) (predOf s) → Held F page source s
+  rooted-held s rooted g v h =
+      let root = rooted .root v h in
+      let nearer = nearer-below-size F (costOf F s) v (rooted .inside v h) in
+      let near = rooted .near v h in
+      let is = root .walk .is in
+      let short : root .walk .time < noTime = omega (arith, mul-le-mul-right (ok .longest) nearer, ok .room) in
+      (root .walk .time, root .walk .moves, root .walk .walk, (short, omega (arith, root .few)), is)
+
+  pub plain-held : (n : ℕ) → Held F page source (plainAt n)
+  plain-held n g = rooted-held (plainAt n) (plain-holds n .inv g .labels .rooted) g
+
+  pub df-held : (n : ℕ) → Held F page source (dfAt n)
+  df-held n g = rooted-held (dfAt n) (df-holds n .inv g .labels .rooted) g
+
   -- The page loop ends: it leaves no station of its page that has a time and is stale, and it takes no more turns
   -- than the page has stations. Stated of the loop that `dfSearch` runs, where it runs it: for the station chosen after
   -- n steps, on a good page.
@@ -125,6 +144,12 @@ module _ (F : Frame) (page : ℕ → Page) (source : ℕ) (ok : Sound F page sou
     in-hand-ready : Ready ok inHand
     in-hand-ready = rw in-hand-one (visited-u ok u (dfAt n) (df-holds n .inv going-on) next moves is .ready)
 
+    pub page-loop-held : (j : ℕ) → Held F page source (withinDf F page source n u moves j)
+    page-loop-held j =
+        let k = loop-keeps ok (F .pageOf u) moves is (λ t. Unit {0}) (λ r x a b m. tt) j inHand in-hand-ready tt in
+        rw (turns-one ok (F .pageOf u) moves is j inHand in-hand-ready)
+        (rooted-held (iter (workTurn F ltb (F .pageOf u) moves) j inHand) (k .0 .labels .rooted))
+
     pub page-loop-ends : chooseOn F (F .pageOf u) (workThrough F (noneOrLess F) (F .pageOf u) moves inHand) ≡ Nobody
     page-loop-ends = rw (loop-one ok (F .pageOf u) moves is inHand in-hand-ready)
         (worked-through ok (F .pageOf u) moves is inHand in-hand-ready)
@@ -139,38 +164,30 @@ module _ (F : Frame) (page : ℕ → Page) (source : ℕ) (ok : Sound F page sou
         ∙ loop-short ok (F .pageOf u) moves is inHand in-hand-ready
         ∙ sym (turns-one ok (F .pageOf u) moves is turns inHand in-hand-ready)
 
-  -- Demand 2.
-  pub plain-least-times : plain .halt ≡ going → LeastTimes F page source (plain .costs) (plain .preds) (reached F plain)
+  -- Demand 2, of costs.
+  pub plain-least-costs : plain .halt ≡ going → LeastCosts F page source (plain .costs) (plain .preds) (reached F plain)
   unfolding plainSearch searchBy
-  plain-least-times g = ended-least-times ok isSettled plain (plain-holds (F .size) .inv g) g plain-ends
+  plain-least-costs g = ended-least-costs ok isSettled plain (plain-holds (F .size) .inv g) g plain-ends
 
-  pub df-least-times : df .halt ≡ going → LeastTimes F page source (df .costs) (df .preds) (reached F df)
+  pub df-least-costs : df .halt ≡ going → LeastCosts F page source (df .costs) (df .preds) (reached F df)
   unfolding dfSearch searchBy
-  df-least-times g = ended-least-times ok isFresh df (df-holds (F .size) .inv g) g df-ends
+  df-least-costs g = ended-least-costs ok isFresh df (df-holds (F .size) .inv g) g df-ends
 
-  -- Both searches accept or are refused alike, and leave the same times and predecessors.
+  -- Both searches accept or are refused alike.
   pub same-halt : plain .halt ≡ df .halt
   unfolding plainSearch dfSearch searchBy
   same-halt = both-hold (F .size) .halt
 
-  pub same-tables : df .halt ≡ going → (plain .costs ≡ df .costs) × (plain .preds ≡ df .preds)
-  same-tables g = least-times-fix ok (plain .costs) (plain .preds) (reached F plain) (plain-least-times (same-halt ∙ g))
-      (df .costs) (df .preds) (reached F df) (df-least-times g)
-
-  pub same-reached : df .halt ≡ going → reached F plain ≡ reached F df
-  unfolding reached
-  same-reached g = ap (λ times. count (λ v. ltb (getD times v (F .none)) (F .none)) (F .size)) (same-tables g .0)
-
   -- Which page is refused; it stands last in the list.
-  pub plain-refused : (number p offset : ℕ) → plain .halt ≡ refused number p offset
-      → RefusedPage F page source number p offset × ((before : List ℕ) × (plain .pages ≡ before ++ (p ∷ [])))
+  pub plain-first-bad : (number p offset : ℕ) → plain .halt ≡ refused number p offset
+      → FirstBad F page source number p offset × ((before : List ℕ) × (plain .pages ≡ before ++ (p ∷ [])))
   unfolding plainSearch searchBy
-  plain-refused = plain-holds (F .size) .told
+  plain-first-bad = plain-holds (F .size) .told
 
-  pub df-refused : (number p offset : ℕ) → df .halt ≡ refused number p offset
-      → RefusedPage F page source number p offset × ((before : List ℕ) × (df .pages ≡ before ++ (p ∷ [])))
+  pub df-first-bad : (number p offset : ℕ) → df .halt ≡ refused number p offset
+      → FirstBad F page source number p offset × ((before : List ℕ) × (df .pages ≡ before ++ (p ∷ [])))
   unfolding dfSearch searchBy
-  df-refused = df-holds (F .size) .told
+  df-first-bad = df-holds (F .size) .told
 
   -- Order: after the same number of steps both searches choose alike and have settled the same stations; whoever is
   -- chosen has its least cost over walks; and stations are chosen in rising order of least cost, then number.
@@ -217,48 +234,48 @@ module _ (F : Frame) (page : ℕ → Page) (source : ℕ) (ok : Sound F page sou
   pub df-list : df .halt ≡ going → ListOf F page source (df .pages) (plain .pages)
   df-list g = record { part = list-part; often = list-often; reads = list-reads; short = df-short }
 
-  -- The sum of a time and a move stays below none, after any number of steps of either search.
+  -- The sum of a station's cost and a move's stays below none, after any number of steps of either search.
   pub plain-sum-below-none : (n u v w : ℕ) → (plainAt n) .halt ≡ going → costOf F (plainAt n) u < F .none
       → Goes F page u v w
-      → costOf F (plainAt n) u + w < F .none
+      → costOf F (plainAt n) u + cost w 1 < F .none
   plain-sum-below-none n u v w g = sum-below-none ok (costOf F (plainAt n)) (predOf (plainAt n))
       (plain-holds n .inv g .labels .rooted) u v w
 
   pub df-sum-below-none : (n u v w : ℕ) → (dfAt n) .halt ≡ going → costOf F (dfAt n) u < F .none → Goes F page u v w
-      → costOf F (dfAt n) u + w < F .none
+      → costOf F (dfAt n) u + cost w 1 < F .none
   df-sum-below-none n u v w g = sum-below-none ok (costOf F (dfAt n)) (predOf (dfAt n))
       (df-holds n .inv g .labels .rooted) u v w
 
--- The room that a map has: 2,048 stations, moves up to 65,535, and none 4,294,967,295.
-pub no-sum-reaches-none : (F : Frame) (longest : ℕ) → F .size ≤ 2048 → longest ≤ 65535 → F .none ≡ 4294967295
-    → F .size * longest < F .none
-no-sum-reaches-none F longest few short none = omega (arith, mul-le-mul few short)
-
-pub map-sound : (F : Frame) (page : ℕ → Page) (source : ℕ) → F .size ≤ 2048 → F .none ≡ 4294967295 → source < F .size
-    → ((u v w : ℕ) → Goes F page u v w → (0 < w) × (w ≤ 65535) × (v < F .size)) → Sound F page source
+-- The room that a map has: 2,048 stations, and moves of up to 65,535 tenths of a second.
+pub map-sound : (F : Frame) (page : ℕ → Page) (source : ℕ) → F .size ≤ 2048 → F .none ≡ noCost → source < F .size
+    → ((u v w : ℕ) → Goes F page u v w → (w ≤ 65535) × (v < F .size)) → Sound F page source
 map-sound F page source few none inside fits = record {
-  longest = 65535;
-  moves = fits;
+  longest = cost 65535 1;
+  moves = λ u v w g. (omega (arith, fits u v w g .0), fits u v w g .1);
   source-in = inside;
-  room = no-sum-reaches-none F 65535 few (omega arith) none;
+  none = none;
+  few = omega arith;
+  room = omega (arith, mul-le-mul-right (cost 65535 1) few);
 }
 
--- Fewer moves: where every move of one net is a move of another, no station has a lesser time in the first.
+-- Fewer moves: where every move of one net is a move of another, no station has a lesser cost in the first.
 module _ (F : Frame) (page fewer : ℕ → Page) (source : ℕ)
     (among : (u v w : ℕ) → Goes F fewer u v w → Goes F page u v w) where
-  walk-among : {v c : ℕ} → Walk F fewer source v c → Walk F page source v c
+  walk-among : {v t m : ℕ} → Walk F fewer source v t m → Walk F page source v t m
   walk-among here = here
   walk-among (onward {u = u} v w walk goes) = onward v w (walk-among walk) (among u v w goes)
 
-  pub fewer-moves-no-less : {times preds later others : List ℕ} {r s : ℕ} → LeastTimes F page source times preds r
-      → LeastTimes F fewer source later others s → (v : ℕ) → getD times v (F .none) ≤ getD later v (F .none)
-  fewer-moves-no-less {times} {later = later} all few v =
+  pub fewer-moves-no-less : {costs preds later others : List ℕ} {r s : ℕ} → LeastCosts F page source costs preds r
+      → LeastCosts F fewer source later others s → (v : ℕ) → getD costs v (F .none) ≤ getD later v (F .none)
+  fewer-moves-no-less {costs} {later = later} all few v =
       ⊎-elim
       (λ none.
       let is = few .untimed v none in
       ⊎-elim (λ also. omega (arith, is .0, all .untimed v also .0)) (λ has. omega (arith, is .0))
-      (le-or-lt (F .none) (getD times v (F .none))))
-      (λ has. all .least v (getD later v (F .none)) (walk-among (few .walk v has)))
+      (le-or-lt (F .none) (getD costs v (F .none))))
+      (λ has.
+      let l = few .spells v has in
+      omega (arith, l .is, all .least v (l .time) (l .moves) (walk-among (spells-walk F fewer source (l .spells)))))
       (le-or-lt (F .none) (getD later v (F .none)))
 
 -- Locality: two nets that agree on the pages listed by the first one's search get the same result in every part,

@@ -1,4 +1,4 @@
--- What relaxing moves does to a state: to its list and halt, to its tables entry by entry, and to what its times
+-- What relaxing moves does to a state: to its list and halt, to its tables entry by entry, and to what its costs
 -- mean.
 pub mod Log
 pub mod Relax

@@ -11,12 +11,13 @@ use Rattle.common.proofs.Cases.{le-or-lt}
 use Rattle.common.specs.Numbers.{sourceMark, noPred}
 use Rattle.net.specs.declared.Choice.{Choice}
 use Rattle.net.specs.declared.Choice.the-variants.{Station, Nobody}
+use Rattle.common.specs.Costs.{cost}
 use Rattle.net.specs.Net.{Move, Page, good, bad, Frame, Goes}
 use Rattle.net.specs.Search.{State, going, refused, withPage, withHalt, costOf, predOf}
 use Rattle.net.specs.Search.{reached, start, iter, onPage, relaxTo, relax, relaxAll, searchBy}
 use Rattle.net.specs.Run.{searchOf, unmarked, stopWaiting, turnLimit, waits, firstWaiting, firstOn, visitOf}
 use Rattle.net.specs.Run.{turnOf, pageWork, reference, stepRun, afterReferences, runOf, InHand}
-use Rattle.net.proofs.Sound.{Sound}
+use Rattle.net.proofs.Sound.{Sound, below-none}
 use Rattle.net.proofs.Basics.Tests.{false-of, same-test}
 use Rattle.net.proofs.Basics.Iterate.{iter-last, iter-stop}
 use Rattle.net.proofs.Basics.Lists.{length-one-more}
@@ -38,14 +39,14 @@ use Rattle.net.proofs.Laws.{plain-one-comparison, df-one-comparison}
 pub record Standing (F : Frame) (page : ℕ → Page) (source : ℕ) (s : State) : Type 0 where
   pub sizes : Tables F s
   pub inside : (v : ℕ) → costOf F s v < F .none → v < F .size
-  pub source-time : costOf F s source ≡ 0
+  pub source-cost : costOf F s source ≡ 0
   pub source-pred : predOf s source ≡ sourceMark
   pub pred-inside : (v : ℕ) → v ≢ source → costOf F s v < F .none → predOf s v < F .size
   pub no-pred : (v : ℕ) → F .none ≤ costOf F s v → predOf s v ≡ noPred
   -- no sum that relaxing forms reaches none
-  pub sums : (u v w : ℕ) → costOf F s u < F .none → Goes F page u v w → costOf F s u + w < F .none
+  pub sums : (u v w : ℕ) → costOf F s u < F .none → Goes F page u v w → costOf F s u + cost w 1 < F .none
 
--- A move of x that is relaxed next, in state r; the sum is that of its weight and the time x had before its visit.
+-- A move of x that is relaxed next, in state r; the sum is that of its cost and the cost x had before its visit.
 pub record NextMove (df : Bool) (F : Frame) (x sum : ℕ) (next : Move) (r : State) : Type 0 where
   pub target : next .target < F .size
   pub sum-below : sum < F .none
@@ -55,16 +56,16 @@ pub record NextMove (df : Bool) (F : Frame) (x sum : ℕ) (next : Move) (r : Sta
       → waits df F (relax F ltb x next r) v ≡ ((eqb v (next .target) && ltb sum (costOf F r v)) || waits df F r v)
 
 relax-by-sum : (F : Frame) (x : ℕ) (next : Move) (r : State) (time : ℕ) → costOf F r x ≡ time
-    → relax F ltb x next r ≡ relaxTo F ltb x (next .target) (time + next .weight) r
+    → relax F ltb x next r ≡ relaxTo F ltb x (next .target) (time + cost (next .time) 1) r
 unfolding relax
-relax-by-sum F x next r time e = ap (λ t. relaxTo F ltb x (next .target) (t + next .weight) r) e
+relax-by-sum F x next r time e = ap (λ t. relaxTo F ltb x (next .target) (t + cost (next .time) 1) r) e
 
 module _ {F : Frame} {page : ℕ → Page} {source : ℕ} (ok : Sound F page source) where
   standing : (s : State) → Tables F s → Rooted ok (costOf F s) (predOf s) → Standing F page source s
   standing s z r = record {
     sizes = z;
     inside = r .inside;
-    source-time = r .source-time;
+    source-cost = r .source-cost;
     source-pred = r .source-pred;
     pred-inside = λ v ne h. let (w, g, le) = r .root v h .from ne in r .inside (predOf s v) (omega arith);
     no-pred = r .none;
@@ -128,7 +129,7 @@ module _ {F : Frame} {page : ℕ → Page} {source : ℕ} (ok : Sound F page sou
     pub start-waits : (v : ℕ) → waits df F (start F source) v ≡ eqb v source
     start-waits v = same-test (eqb v source) (waits df F (start F source) v)
         (λ e. waits-if df F (start F source) v (start-not-done ok df v)
-        (rw (eqb-true v source e) (omega (arith, start-rooted ok .source-time, ok .room))))
+        (rw (eqb-true v source e) (omega (arith, start-rooted ok .source-cost, below-none ok))))
         (λ e. false-of (waits df F (start F source) v)
         (λ w. eqb-false v source e (start-timed ok v (waits-timed df F (start F source) v w))))
 
@@ -283,10 +284,10 @@ module _ {F : Frame} {page : ℕ → Page} {source : ℕ} (ok : Sound F page sou
           abbrev part : State
           part = relaxAll F ltb x before stopped
 
-          part-goes : (n : Move) → List·Memᴰ n (before ++ rest) → Goes F page x (n .target) (n .weight)
+          part-goes : (n : Move) → List·Memᴰ n (before ++ rest) → Goes F page x (n .target) (n .time)
           part-goes n i = rw (visit-on, h .content, split) i
 
-          goes : (n : Move) → List·Memᴰ n before → Goes F page x (n .target) (n .weight)
+          goes : (n : Move) → List·Memᴰ n before → Goes F page x (n .target) (n .time)
           goes n i = part-goes n (Memᴰ·append-left rest i)
 
           now : Visiting ok df x part
@@ -299,14 +300,14 @@ module _ {F : Frame} {page : ℕ → Page} {source : ℕ} (ok : Sound F page sou
           visit-time = visiting-time ok df x stopped visiting before goes ∙ stopped-time F df x s x
 
         pub visit-move : (before rest : List Move) (next : Move) → moves x ≡ before ++ (next ∷ rest)
-            → NextMove df F x (costOf F s x + next .weight) next (relaxAll F ltb x before stopped)
+            → NextMove df F x (costOf F s x + cost (next .time) 1) next (relaxAll F ltb x before stopped)
         visit-move before rest next split =
             let r = relaxAll F ltb x before stopped in
             let time : costOf F r x ≡ costOf F s x = visit-time before (next ∷ rest) split in
             let go = part-goes before (next ∷ rest) split next (Memᴰ·append-right before (List·Memᴰ·head refl)) in
             let v = now before (next ∷ rest) split in
             record {
-              target = ok .moves x (next .target) (next .weight) go .2;
+              target = ok .moves x (next .target) (next .time) go .1;
               sum-below = rw time at (visiting-sum ok df x r v next go);
               by-sum = relax-by-sum F x next r (costOf F s x) time;
               wakes = rw time at (visiting-waits ok df x r v next go);

@@ -4,12 +4,12 @@ use mathlib.Core.Bool.{Bool, true, false, not, _&&_, _||_}
 use Prim.Native.Nat.{ℕ, zero, suc, _+_}
 use lib.ListN.{length, getD}
 use lib.Dec.{ltb, eqb}
-use Rattle.common.specs.Numbers.{noTime}
+use Rattle.common.specs.Costs.{noCost}
 
--- A move: its target, and its weight, which is what it adds to the cost of a walk (01: its time).
+-- A move: its target and its time.
 pub record Move : Type 0 where
   pub target : ℕ
-  pub weight : ℕ
+  pub time : ℕ
 
 -- What reading a page gives: the moves of each of its stations in page order, or the number and the offset of its
 -- refusal.
@@ -18,7 +18,7 @@ pub data Page : Type 0 where
   bad : ℕ → ℕ → Page
 
 -- What is known before a page is read: the number of stations, the page of each, and the number that stands for no
--- time.
+-- cost.
 pub record Frame : Type 0 where
   pub size : ℕ
   pub pageOf : ℕ → ℕ
@@ -26,7 +26,7 @@ pub record Frame : Type 0 where
 
 -- A map's frame, by its directory, which has an entry for each station: its page.
 abbrev pub frame : List ℕ → Frame
-frame directory = record { size = length directory; pageOf = λ v. getD directory v 0; none = noTime }
+frame directory = record { size = length directory; pageOf = λ v. getD directory v 0; none = noCost }
 
 abbrev pub isGood : Page → Bool
 isGood (good moves) = true
@@ -37,15 +37,16 @@ abbrev pub movesOf : Page → ℕ → List Move
 movesOf (good moves) u = moves u
 movesOf (bad number offset) u = []
 
--- There is a move from u to v of weight w, and the page of u is good.
+-- There is a move from u to v that takes time w, and the page of u is good.
 abbrev pub Goes : Frame → (ℕ → Page) → ℕ → ℕ → ℕ → Type 0
-Goes F page u v w = List·Memᴰ (record { target = v; weight = w }) (movesOf (page (F .pageOf u)) u)
+Goes F page u v w = List·Memᴰ (record { target = v; time = w }) (movesOf (page (F .pageOf u)) u)
 
--- `Walk F page source v c`: a walk from the source to v of cost c. It may be empty, may repeat stations, and leaves
--- only stations on good pages.
-pub data Walk (F : Frame) (page : ℕ → Page) (source : ℕ) : ℕ → ℕ → Type 0 where
-  here : Walk F page source source 0
-  onward : {u c : ℕ} (v w : ℕ) → Walk F page source u c → Goes F page u v w → Walk F page source v (c + w)
+-- `Walk F page source v t m`: a walk from the source to v that takes time t, in m moves. It may be empty, may repeat
+-- stations, and leaves only stations on good pages.
+pub data Walk (F : Frame) (page : ℕ → Page) (source : ℕ) : ℕ → ℕ → ℕ → Type 0 where
+  here : Walk F page source source 0 0
+  onward : {u t m : ℕ} (v w : ℕ) → Walk F page source u t m → Goes F page u v w
+      → Walk F page source v (t + w) (suc m)
 
 abbrev pub one : Bool → ℕ
 one true = 1

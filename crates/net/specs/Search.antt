@@ -1,11 +1,14 @@
--- Both searches by the letter of document 01, "The two searches", on lists that mirror the lent tables.
-use mathlib.Core.List.{List, [], _∷_, _++_}
+-- Both searches by the letter of document 01, "The two searches", on lists with an entry for each station. C-14: "Less
+-- means less time, then fewer moves; choosing, relaxing, freshness and the refused page follow it in both searches."
+-- Where document 01 says time, a search has a cost: time and number of moves in one number (common/specs/Costs.antt).
+use mathlib.Core.List.{List, [], _∷_, _++_, map}
 use mathlib.Core.Bool.{Bool, true, false, not, _&&_, _||_}
 use Prim.Native.Nat.{ℕ, zero, suc, _+_, _*_, _/_, _%_}
 use lib.ListN.{getD, set, replicate}
 use lib.Dec.{ltb, leb, eqb}
 use Rattle.common.specs.Pick.{pick}
 use Rattle.common.specs.Numbers.{sourceMark, noPred}
+use Rattle.common.specs.Costs.{cost, timeIn, movesIn}
 use Rattle.net.specs.declared.Choice.{Choice}
 use Rattle.net.specs.declared.Choice.the-variants.{Station, Nobody}
 use Rattle.net.specs.Net.{Move, Page, good, bad, Frame, count}
@@ -15,7 +18,7 @@ pub data Halt : Type 0 where
   going : Halt
   refused : ℕ → ℕ → ℕ → Halt
 
--- Per station a cost (01: its time), a predecessor, and a mark: 1 if settled plus 2 if fresh (the thesis's Valid);
+-- Per station a cost or none, a predecessor, and a mark: 1 if settled plus 2 if fresh (the thesis's Valid);
 -- beside them the page list, which is the references made so far, in order.
 pub record State : Type 0 where
   pub costs : List ℕ
@@ -23,6 +26,13 @@ pub record State : Type 0 where
   pub marks : List ℕ
   pub pages : List ℕ
   pub halt : Halt
+
+-- The two numbers of each station, as tables.
+abbrev pub timeTable : State → List ℕ
+timeTable s = map timeIn (s .costs)
+
+abbrev pub moveTable : State → List ℕ
+moveTable s = map movesIn (s .costs)
 
 abbrev pub predOf : State → ℕ → ℕ
 predOf s v = getD (s .preds) v noPred
@@ -115,19 +125,19 @@ onPage work p (bad number offset) s = withHalt (refused number p offset) s
 unfoldable pub readFor : Frame → (ℕ → Page) → ℕ → ((ℕ → List Move) → State → State) → State → State
 readFor F page u work s = onPage work (F .pageOf u) (page (F .pageOf u)) (withPage (F .pageOf u) (settle u s))
 
--- The steps, over the comparison of a sum with the time that a station has: `less sum time`.
+-- The steps, over the comparison of a sum with the cost that a station has: `less sum old`.
 module _ (F : Frame) (less : ℕ → ℕ → Bool) where
   -- ".. v gets sum and predecessor u, and v is not fresh. If sum equals v's time and u is below v's predecessor, only
-  -- the predecessor becomes u."
+  -- the predecessor becomes u." C-14: "Two ways are now equal only if time and number of moves agree."
   abbrev pub relaxTo : ℕ → ℕ → ℕ → State → State
   relaxTo u v sum s =
       pick (less sum (costOf F s v))
       (withTables (set (s .costs) v sum) (set (s .preds) v u) (set (s .marks) v (markOf s v % 2)) s)
       (pick (eqb sum (costOf F s v) && ltb u (predOf s v)) (withTables (s .costs) (set (s .preds) v u) (s .marks) s) s)
 
-  -- "Relax a move from u to v: sum = time of u + move time."
+  -- "Relax a move from u to v: sum = time of u + move time"; C-14: and one move more.
   unfoldable pub relax : ℕ → Move → State → State
-  relax u m s = relaxTo u (m .target) (costOf F s u + m .weight) s
+  relax u m s = relaxTo u (m .target) (costOf F s u + cost (m .time) 1) s
 
   unfoldable pub relaxAll : ℕ → List Move → State → State
   relaxAll u [] s = s
@@ -166,7 +176,7 @@ module _ (F : Frame) (visitOf : ℕ → State → State) where
 
 -- "v has no time, or sum is less"
 abbrev pub noneOrLess : Frame → ℕ → ℕ → Bool
-noneOrLess F sum time = not (ltb time (F .none)) || ltb sum time
+noneOrLess F sum old = not (ltb old (F .none)) || ltb sum old
 
 unfoldable pub plainSearch : Frame → (ℕ → Page) → ℕ → State
 plainSearch F page source = searchBy F (plainVisit F (noneOrLess F) page) source

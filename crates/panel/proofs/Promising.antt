@@ -54,15 +54,16 @@ module _ (q : Query) (station : ℕ) (bytes : Bytes (q .image)) where
       let shown = getD (firsts q (found q .tables .times)) station noTime in
       let entry : shown ≡ t = getD-take _ _ _ _ there in
       let times = promised-of q blank bytes true (found q) refl .times e in
+      let all-good : AllGood q = λ v c leads. times .pages-good v c (leads .0) (leads .1) in
       by-pick (Known q station) (ltb t noTime)
       (λ some.
       let has : shown < noTime = rw entry (ltb-true t noTime some) in
       let few = few-stations q blank (admitted-of q e) in
-      least t (rw entry at (greatest-time q bytes few times station has)) (rw entry at (times .walk station has))
-      (λ c leads. rw entry at (times .least station c leads)) (times .pages-good))
+      least t (rw entry at (greatest-time q bytes few times station has)) (_, rw entry at (times .walk station has))
+      (λ c leads. rw entry at (times .least station c (leads .0) (leads .1) .0)) all-good)
       (λ lacking. none (λ c leads.
-      let has = rw entry at (times .timed station c leads) in
-      absurd (omega (arith, ltb-false t noTime lacking, has))) (times .pages-good))
+      let has = rw entry at (times .timed station c (leads .0) (leads .1)) in
+      absurd (omega (arith, ltb-false t noTime lacking, has))) all-good)
 
   known-past : Known q station (answerBy (afterHeading (headingCheck (q .image)) (refused 6 nowhere)) 0)
   known-past =

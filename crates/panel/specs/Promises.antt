@@ -30,9 +30,9 @@ ReadOutside x (time n) = Is x n
 ReadOutside x unreached = IsMinus x 1
 ReadOutside x (turnedDown n) = IsMinus x (100 + n)
 
--- A walk along moves open to the length leads from the source to station v in time c.
+-- A walk along moves open to the length leads from the source to station v in time c, by some number of moves.
 abbrev pub LeadsTo : Query → ℕ → ℕ → Type 0
-LeadsTo q v c = Walk (frameOf q) (pagesOf q) (q .source) v c
+LeadsTo q v c = (m : ℕ) × Walk (frameOf q) (pagesOf q) (q .source) v c m
 
 -- Demand 2 for one station, of an answer that can be read as `Reads` says.
 module _ (q : Query) (station : ℕ) (Reads : Answer → Type 0) where

@@ -4,8 +4,8 @@ use Prim.Native.Nat.{ℕ, _+_, _*_, min}
 use lib.ListN.{take, drop}
 use Rattle.common.specs.Numbers.{nobody}
 
--- "take the one of least time, then lowest number": a cost and a station, which is below 2048, in one number. The
--- lesser number has the lesser cost, then the lower station (proofs/Keys.antt).
+-- "take the one of least time, then lowest number", by C-14 of least time and then moves: a cost and a station, which
+-- is below 2048, in one number. The lesser number has the lesser cost, then the lower station (proofs/Keys.antt).
 abbrev pub packed : ℕ → ℕ → ℕ
 packed cost station = cost * 2048 + station
 

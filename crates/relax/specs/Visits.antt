@@ -4,21 +4,22 @@ use mathlib.Core.List.{List, [], _∷_}
 use Prim.Native.Nat.{ℕ, _+_, _-_, _/_, _%_, _≤_}
 use lib.ListN.{length, getD, set, take, drop}
 use Rattle.common.specs.Numbers.{nobody}
+use Rattle.common.specs.Costs.{cost}
 use Rattle.layout.specs.Places.{slotOf}
 use Rattle.layout.specs.Rows.{endOf, rowOf}
 use Rattle.cells.specs.Cells.{Memory, memory, Relaxed, PlacedAt}
 
--- The greatest time that a row can hold, 32 bits less those of the target.
+-- The cost of a move of the greatest time that a row can hold, 32 bits less those of the target.
 abbrev pub longest : ℕ
-longest = 2097151
+longest = cost 2097151 1
 
--- "sum = time of u + move time", "relax its moves in page order": these rows have been relaxed for station u, each on
--- what the one before it left. A row is a move's time and its target, packed.
-pub data Relaxing (places : List ℕ) (u cost : ℕ) : List ℕ → Memory → Memory → Type 0 where
-  none : {m : Memory} → Relaxing places u cost [] m m
+-- "sum = time of u + move time", and one move more; "relax its moves in page order": these rows have been relaxed for
+-- station u, which has this cost, each on what the one before it left. A row is a move's time and its target, packed.
+pub data Relaxing (places : List ℕ) (u held : ℕ) : List ℕ → Memory → Memory → Type 0 where
+  none : {m : Memory} → Relaxing places u held [] m m
   more : {row : ℕ} {rows : List ℕ} {first next last : Memory} →
-      Relaxed places u (row % 2048) (cost + row / 2048) first next → Relaxing places u cost rows next last →
-      Relaxing places u cost (row ∷ rows) first last
+      Relaxed places u (row % 2048) (held + cost (row / 2048) 1) first next → Relaxing places u held rows next last →
+      Relaxing places u held (row ∷ rows) first last
 
 -- Station u no longer waits.
 abbrev pub withoutWaiting : List ℕ → ℕ → Memory → Memory

@@ -9,13 +9,14 @@ ghost use Rattle.cells.specs.Cells.{memory, mostCost, Room, PlacedAt};
 ghost use Rattle.relax.specs.Visits.{longest, Relaxing, Visited, Targets, rowsBetween, LaidOut};
 use cells::offer;
 use common::NOBODY;
+use common::TENTH;
 use layout::moves::begin_of;
 use layout::moves::end_of;
 use layout::places::STATIONS;
 use layout::places::slot_of;
 
 // Relaxes the rows of the layout from `lo` up to `hi`, which are moves of station u, whose cost is given: each leads to
-// station `row % 2048` in time `row / 2048`.
+// station `row % 2048` in time `row / 2048`, by one move more.
 fn relax_rows(
     cells: &mut [u64],
     waiting: &mut [u64],
@@ -40,7 +41,7 @@ fn relax_rows(
     while i < hi {
         let row = layout[i];
         let v = (row as usize) % STATIONS;
-        let sum = cost + (row as u64) / (STATIONS as u64);
+        let sum = cost + ((row as u64) / (STATIONS as u64) * TENTH + 1);
         offer(cells, waiting, queue, places, u, v, sum);
         i += 1;
     }

@@ -58,17 +58,22 @@ module _ (q : Query) (t : Lent) where
   unfolding callCheck
   passes a = rw (a .heading, lt-leb n (q .source) (a .inside), a .long)
 
-  none-of-four : (a b d e : Bool) → a || (b || (d || e)) ≡ false
-      → (a ≡ false) × (b ≡ false) × (d ≡ false) × (e ≡ false)
-  none-of-four false false false e k = (refl, refl, refl, k)
-  none-of-four true b d e k = never (cc)
-  none-of-four false true d e k = never (cc)
-  none-of-four false false true e k = never (cc)
+  neither : (a b : Bool) → a || b ≡ false → (a ≡ false) × (b ≡ false)
+  neither false b k = (refl, k)
+  neither true b k = never (cc)
 
   -- each table has an entry for each station
   pub long-enough : Admitted q t
-      → (n ≤ length (t .times)) × (n ≤ length (t .preds)) × (n ≤ length (t .marks)) × (n ≤ length (t .list))
+      → (n ≤ length (t .times)) × (n ≤ length (t .moves)) × (n ≤ length (t .preds)) × (n ≤ length (t .marks))
+      × (n ≤ length (t .list))
   long-enough a =
       let short : List ℕ → Bool = λ l. ltb (length l) n in
-      let none = none-of-four (short (t .times)) (short (t .preds)) (short (t .marks)) (short (t .list)) (a .long) in
-      omega (arith, ltb-false, none)
+      let list = short (t .list) in
+      let marks = short (t .marks) in
+      let preds = short (t .preds) in
+      let moves = short (t .moves) in
+      let first = neither (short (t .times)) (moves || (preds || (marks || list))) (a .long) in
+      let second = neither moves (preds || (marks || list)) (first .1) in
+      let third = neither preds (marks || list) (second .1) in
+      let last = neither marks list (third .1) in
+      omega (arith, ltb-false, first .0, second .0, third .0, last)

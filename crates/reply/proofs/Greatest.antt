@@ -6,17 +6,17 @@ use Rattle.image.specs.Bytes.{Bytes}
 use Rattle.map.proofs.Soundness.{goes-within}
 use Rattle.reply.specs.Reply.{Query, frameOf, pagesOf}
 
--- Each move costs 65,535 at most, and so many moves at most so many times that.
+-- Each move takes 65,535 at most, and so many moves at most so many times that.
 module _ (q : Query) (bytes : Bytes (q .image)) where
-  spelled-within : {preds : List ℕ} {v k c : ℕ} → Spells (frameOf q) (pagesOf q) (q .source) preds v k c
-      → c ≤ k * 65535
+  spelled-within : {preds : List ℕ} {v t m : ℕ} → Spells (frameOf q) (pagesOf q) (q .source) preds v t m
+      → t ≤ m * 65535
   spelled-within (at-source e) = omega arith
   spelled-within (step {u} v w e goes before) =
-      omega (arith, spelled-within before, goes-within (q .strip) (q .image) bytes u v w goes .1)
+      omega (arith, spelled-within before, goes-within (q .strip) (q .image) bytes u v w goes .0)
 
-  pub greatest-time : (frameOf q) .size ≤ 2048 → {times preds : List ℕ} {reached : ℕ}
-      → LeastTimes (frameOf q) (pagesOf q) (q .source) times preds reached → (v : ℕ) → getD times v noTime < noTime
-      → getD times v noTime ≤ 134150145
+  pub greatest-time : (frameOf q) .size ≤ 2048 → {times moves preds : List ℕ} {reached : ℕ}
+      → LeastTimes (frameOf q) (pagesOf q) (q .source) times moves preds reached → (v : ℕ)
+      → getD times v noTime < noTime → getD times v noTime ≤ 134150145
   greatest-time few least v has =
       let way = least .spells v has in
-      omega (arith, way .1, spelled-within (way .2))
+      omega (arith, way .0, spelled-within (way .1))

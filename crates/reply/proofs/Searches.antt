@@ -1,11 +1,13 @@
 -- The net's laws of both searches, by the flag, for a call that 1 to 7 do not refuse: its map is a sound net.
 use Rattle.common.proofs.Ground.{_≡_, Bool, true, false, List, [], _∷_, _++_, ℕ, _≤_, arith, length}
 use Rattle.net.specs.Net.{Frame, Page}
-use Rattle.net.specs.Search.{State, going, refused, reached}
+use Rattle.net.specs.Search.{State, going, refused, timeTable, moveTable, reached}
 use Rattle.net.specs.Run.{searchOf}
 use Rattle.net.specs.Demands.{LeastTimes, RefusedPage, AgreeOn}
 use Rattle.net.proofs.Sound.{Sound}
-use Rattle.net.proofs.Laws.{plain-least-times, df-least-times, plain-refused, df-refused, plain-short, df-short}
+use Rattle.net.proofs.LeastCosts.{LeastCosts}
+use Rattle.net.proofs.Laws.{plain-least-costs, df-least-costs, plain-short, df-short}
+use Rattle.net.proofs.Ways.{plain-least-times, df-least-times, plain-refused, df-refused}
 use Rattle.net.proofs.Laws.{plain-local, df-local}
 use Rattle.image.specs.Bytes.{Bytes}
 use Rattle.image.specs.Image.{stationCount}
@@ -34,9 +36,15 @@ module _ (q : Query) where
       pub sound-of : Sound (frameOf q) (pagesOf q) (q .source)
       sound-of = image-sound (q .strip) (q .image) bytes (a .heading) (q .source) (rw size-of (a .inside))
 
-      pub least-of : (df : Bool) → (found df) .halt ≡ going
-          → LeastTimes (frameOf q) (pagesOf q) (q .source) ((found df) .costs) ((found df) .preds)
+      pub least-costs-of : (df : Bool) → (found df) .halt ≡ going
+          → LeastCosts (frameOf q) (pagesOf q) (q .source) ((found df) .costs) ((found df) .preds)
           (reached (frameOf q) (found df))
+      least-costs-of true = df-least-costs (frameOf q) (pagesOf q) (q .source) sound-of
+      least-costs-of false = plain-least-costs (frameOf q) (pagesOf q) (q .source) sound-of
+
+      pub least-of : (df : Bool) → (found df) .halt ≡ going
+          → LeastTimes (frameOf q) (pagesOf q) (q .source) (timeTable (found df)) (moveTable (found df))
+          ((found df) .preds) (reached (frameOf q) (found df))
       least-of true = df-least-times (frameOf q) (pagesOf q) (q .source) sound-of
       least-of false = plain-least-times (frameOf q) (pagesOf q) (q .source) sound-of
 

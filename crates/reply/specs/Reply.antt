@@ -1,16 +1,16 @@
--- What a search is asked, and what it hands back: its reply and the four lent tables (01, "The two searches" and "What
--- is turned down").
+-- What a search is asked, and what it hands back: its reply and the five lent tables (01, "The two searches" and "What
+-- is turned down"; C-14).
 use mathlib.Core.Bool.{Bool, _||_}
 use mathlib.Core.List.{List}
 use Prim.Native.Nat.{ℕ}
 use lib.ListN.{length, take, replicate}
 use lib.Dec.{ltb, leb}
-use Rattle.common.specs.Numbers.{noTime, noPred}
+use Rattle.common.specs.Numbers.{noTime, noMoves, noPred}
 use Rattle.common.specs.Pick.{pick}
 use Rattle.common.specs.Window.{placed}
 use Rattle.net.specs.Net.{Frame, Page}
 use Rattle.net.specs.Search as net
-use Rattle.net.specs.Search.{State, Halt, going, reached}
+use Rattle.net.specs.Search.{State, Halt, going, timeTable, moveTable, reached}
 use Rattle.image.specs.Image.{Outcome, accepted, refused, nowhere, on-page, placeOf, stationCount, headingCheck}
 use Rattle.image.specs.Image.{afterHeading}
 use Rattle.map.specs.Map.{mapFrame, mapPage}
@@ -44,20 +44,22 @@ pagesOf q = mapPage (q .strip) (q .image)
 abbrev pub NetSearch : Type 0
 NetSearch = Frame → (ℕ → Page) → ℕ → State
 
--- "and four lent tables: times u32, predecessors u16, marks u8, page list u8"
+-- "and four lent tables: times u32, predecessors u16, marks u8, page list u8"; C-14: "A fifth table, u16 moves per
+-- station (none 65,535), is lent"
 pub record Lent : Type 0 where
   pub times : List ℕ
+  pub moves : List ℕ
   pub preds : List ℕ
   pub marks : List ℕ
   pub list : List ℕ
 
-abbrev pub lent : List ℕ → List ℕ → List ℕ → List ℕ → Lent
-lent t p m l = record { times = t; preds = p; marks = m; list = l }
+abbrev pub lent : List ℕ → List ℕ → List ℕ → List ℕ → List ℕ → Lent
+lent t w p m l = record { times = t; moves = w; preds = p; marks = m; list = l }
 
 -- Tables of a caller's own, with room for every map: times, and zeros in the others. What stands in tables has no
 -- bearing on the reply (proofs/Lending.antt).
 abbrev pub roomy : List ℕ → Lent
-roomy times = lent times (replicate 2048 0) (replicate 2048 0) (replicate 2048 0)
+roomy times = lent times (replicate 2048 0) (replicate 2048 0) (replicate 2048 0) (replicate 2048 0)
 
 abbrev pub blank : Lent
 blank = roomy (replicate 2048 0)
@@ -85,29 +87,32 @@ abbrev pub replyOf : Answer → Reply
 replyOf (Accepted count reached) = reply accepted count reached
 replyOf (Refused refusal count) = reply (refused (refusal .number) (placeOf (refusal .place))) count 0
 
-abbrev pub returned : Answer → List ℕ → List ℕ → List ℕ → List ℕ → Handed
-returned answer t p m l = handed (replyOf answer) (lent t p m l)
+abbrev pub returned : Answer → List ℕ → List ℕ → List ℕ → List ℕ → List ℕ → Handed
+returned answer t w p m l = handed (replyOf answer) (lent t w p m l)
 
 -- "Of times, predecessors and marks the first N entries are written and no others, here and at a page refusal: times
--- ..; predecessors ..; marks 0. The list holds count entries; its others keep their bytes."
-abbrev pub written : Frame → List ℕ → List ℕ → List ℕ → Lent → Lent
-written F times preds pages t =
-    lent (placed (t .times) 0 times) (placed (t .preds) 0 preds) (placed (t .marks) 0 (replicate (F .size) 0))
-    (placed (t .list) 0 pages)
+-- ..; predecessors ..; marks 0. The list holds count entries; its others keep their bytes." C-14: and of moves.
+abbrev pub written : Frame → List ℕ → List ℕ → List ℕ → List ℕ → Lent → Lent
+written F times moves preds pages t =
+    lent (placed (t .times) 0 times) (placed (t .moves) 0 moves) (placed (t .preds) 0 preds)
+    (placed (t .marks) 0 (replicate (F .size) 0)) (placed (t .list) 0 pages)
 
 -- How a search ends. "Page refusal: times all none, predecessors all 65,535, marks 0, the list holds the references
--- made, the bad page last, and the answer gives count, page and offset."
+-- made, the bad page last, and the answer gives count, page and offset." C-14: "a page refusal fills its first N with
+-- 65,535".
 abbrev pub ended : Halt → Frame → State → Lent → Handed
 ended going F s t =
-    handed (reply accepted (length (s .pages)) (reached F s)) (written F (s .costs) (s .preds) (s .pages) t)
+    handed (reply accepted (length (s .pages)) (reached F s))
+    (written F (timeTable s) (moveTable s) (s .preds) (s .pages) t)
 ended (net.refused number p offset) F s t =
     handed (reply (refused number (on-page p offset)) (length (s .pages)) 0)
-    (written F (replicate (F .size) noTime) (replicate (F .size) noPred) (s .pages) t)
+    (written F (replicate (F .size) noTime) (replicate (F .size) noMoves) (replicate (F .size) noPred) (s .pages) t)
 
--- "a table under N entries"
+-- "a table under N entries"; C-14: "a short one is refusal 7"
 abbrev pub tooShort : ℕ → Lent → Bool
 tooShort n t =
-    ltb (length (t .times)) n || (ltb (length (t .preds)) n || (ltb (length (t .marks)) n || ltb (length (t .list)) n))
+    ltb (length (t .times)) n || (ltb (length (t .moves)) n || (ltb (length (t .preds)) n ||
+    (ltb (length (t .marks)) n || ltb (length (t .list)) n)))
 
 -- 6 "source not below N", then 7
 abbrev pub sixOrSeven : ℕ → ℕ → Bool → Outcome

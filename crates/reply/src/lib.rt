@@ -31,10 +31,14 @@ pub enum Answer {
 }
 
 // Whether a table has no entry for some of n stations: 7.
-fn too_short(n: usize, times: usize, preds: usize, marks: usize, list: usize) -> bool
-    ensures value { λ r. ⌜ r ≡ ltb times n || (ltb preds n || (ltb marks n || ltb list n)) ⌝ }
+fn too_short(n: usize, times: usize, moves: usize, preds: usize, marks: usize, list: usize) -> bool
+    ensures value { λ r. ⌜
+        r ≡ ltb times n || (ltb moves n || (ltb preds n || (ltb marks n || ltb list n))) ⌝ }
 {
     if times < n {
+        return true;
+    }
+    if moves < n {
         return true;
     }
     if preds < n {
@@ -51,17 +55,19 @@ fn check_tables(
     n: usize,
     source: u16,
     times: usize,
+    moves: usize,
     preds: usize,
     marks: usize,
     list: usize,
 ) -> Checked
     ensures outcome { λ r. ⌜
-        outcomeOf r ≡ sixOrSeven n source (ltb times n || (ltb preds n || (ltb marks n || ltb list n))) ⌝ }
+        outcomeOf r ≡
+        sixOrSeven n source (ltb times n || (ltb moves n || (ltb preds n || (ltb marks n || ltb list n)))) ⌝ }
 {
     if n <= source as usize {
         return refuse(6, Place::Nowhere);
     }
-    if too_short(n, times, preds, marks, list) {
+    if too_short(n, times, moves, preds, marks, list) {
         return refuse(7, Place::Nowhere);
     }
     Checked::Whole
@@ -72,19 +78,22 @@ pub fn check_call(
     query: Query,
     image: &[u8],
     times: &[u32],
+    moves: &[u16],
     preds: &[u16],
     marks: &[u8],
     list: &[u8],
 ) -> Checked
     ensures outcome { λ r. ⌜
         outcomeOf r ≡ callCheck (askedBy query (now (image .entry)))
-        (lent (now (times .entry)) (now (preds .entry)) (now (marks .entry)) (now (list .entry))) ⌝ }
+        (lent (now (times .entry)) (now (moves .entry)) (now (preds .entry))
+        (now (marks .entry)) (now (list .entry))) ⌝ }
 {
     match check_heading(image) {
         Checked::Whole => check_tables(
             station_count(image),
             query.source,
             times.len(),
+            moves.len(),
             preds.len(),
             marks.len(),
             list.len(),
@@ -99,17 +108,20 @@ pub fn on_map(
     query: Query,
     image: &[u8],
     times: &mut [u32],
+    moves: &mut [u16],
     preds: &mut [u16],
     marks: &mut [u8],
     list: &mut [u8],
 ) -> Answer
     requires passed { ⌜
-        callCheck (askedBy query (now image)) (lent (now times) (now preds) (now marks) (now list)) ≡
-        accepted ⌝ }
+        callCheck (askedBy query (now image))
+        (lent (now times) (now moves) (now preds) (now marks) (now list)) ≡ accepted ⌝ }
     ensures outcome { λ r. ⌜
-        returned r (now (times .exit)) (now (preds .exit)) (now (marks .exit)) (now (list .exit)) ≡
+        returned r (now (times .exit)) (now (moves .exit)) (now (preds .exit))
+        (now (marks .exit)) (now (list .exit)) ≡
         onMap (searchOf (query .df)) (askedBy query (now (image .entry)))
-        (lent (now (times .entry)) (now (preds .entry)) (now (marks .entry)) (now (list .entry))) ⌝ }
+        (lent (now (times .entry)) (now (moves .entry)) (now (preds .entry))
+        (now (marks .entry)) (now (list .entry))) ⌝ }
 {
     let mut cells = [NOBODY; 2048];
     let ended = engine::search(query, image, &mut cells, list);
@@ -119,6 +131,7 @@ pub fn on_map(
         over,
         &cells,
         &mut times[..n],
+        &mut moves[..n],
         &mut preds[..n],
         &mut marks[..n],
     );

@@ -2,16 +2,18 @@
 -- page, or its map is a sound net and the laws of the net speak of it. The tables' first N entries are those of the
 -- net's search, and the list's first entries its page list.
 use Rattle.common.proofs.Ground.{_≡_, refl, ap, sym, _∙_, Bool, true, false, List, List·Memᴰ, ℕ}
-use Rattle.common.proofs.Ground.{_≤_, arith, length, take, getD}
-use Rattle.common.specs.Numbers.{noTime}
+use Rattle.common.proofs.Ground.{_≤_, arith, length, take}
+use Rattle.common.specs.Costs.{NoMore}
 use Rattle.common.specs.Window.{placed}
 use Rattle.common.proofs.Cases.{never}
 use Rattle.common.proofs.Windows.{placed-window}
 use Rattle.net.specs.Net.{Frame, frame}
 use Rattle.net.specs.Search as net
-use Rattle.net.specs.Search.{State, Halt, going, reached, plainSearch, dfSearch}
+use Rattle.net.specs.Search.{State, Halt, going, timeTable, moveTable, reached, plainSearch, dfSearch}
+use Rattle.net.specs.Demands.{timeAt, movesAt}
 use Rattle.net.specs.Run.{searchOf}
-use Rattle.net.proofs.Laws.{same-halt, same-tables, same-reached, df-list, fewer-moves-no-less}
+use Rattle.net.proofs.Laws.{same-halt, df-list}
+use Rattle.net.proofs.Ways.{same-tables, same-reached, fewer-moves-no-more}
 use Rattle.image.specs.Bytes.{Bytes}
 use Rattle.image.specs.Image.{Outcome, accepted, refused, on-page, stationCount}
 use Rattle.image.specs.Image.{AgreeOnHeading, AgreeOnDirectory, AgreeOnPage}
@@ -22,9 +24,9 @@ use Rattle.map.proofs.Offered.{goes-shorter}
 use Rattle.reply.specs.Reply.{Query, withImage, withStrip, frameOf, pagesOf, Lent, Handed, reply, ended}
 use Rattle.reply.specs.Reply.{tooShort, callCheck, onMap, afterCheck, searched, listOf}
 use Rattle.search.specs.Promises.{SameLengths, firsts, TimesAreLeast, PageIsFirstBad}
-use Rattle.search.specs.Promises.{ListAgainstDijkstra, NoLessThanShorter, Promised, DfPromised}
+use Rattle.search.specs.Promises.{ListAgainstDijkstra, Promised, DfPromised}
 use Rattle.reply.proofs.Checking.{Admitted, Decided, turned-down, passed, decided, passes}
-use Rattle.reply.proofs.Searches.{found, local-of, size-of, sound-of, least-of, refused-of}
+use Rattle.reply.proofs.Searches.{found, local-of, size-of, sound-of, least-costs-of, least-of, refused-of}
 
 -- the front that was written
 front-of : (table entries : List ℕ) (n : ℕ) → length entries ≡ n → take n (placed table 0 entries) ≡ entries
@@ -46,18 +48,22 @@ module _ (F : Frame) (s : State) (t : Lent) where
   stopped (net.refused n b o) number p offset e = cc
 
 module _ (q : Query) (t : Lent) (a : Admitted q t) (bytes : Bytes (q .image)) where
-  -- what an accepted search hands back: in the tables' fronts are its times and predecessors
+  -- what an accepted search hands back: in the tables' fronts are its times, moves and predecessors
   accepted-as : (df : Bool) (other : Lent) → (found q df) .halt ≡ going
       → onMap (searchOf df) q other ≡ ended going (frameOf q) (found q df) other
   unfolding onMap
   accepted-as df other g = ap (λ h. ended h (frameOf q) (found q df) other) g
 
   fronts : (df : Bool) (other : Lent) → (found q df) .halt ≡ going
-      → (firsts q (placed (other .times) 0 ((found q df) .costs)) ≡ (found q df) .costs)
+      → (firsts q (placed (other .times) 0 (timeTable (found q df))) ≡ timeTable (found q df))
+      × (firsts q (placed (other .moves) 0 (moveTable (found q df))) ≡ moveTable (found q df))
       × (firsts q (placed (other .preds) 0 ((found q df) .preds)) ≡ (found q df) .preds)
   fronts df other g =
-      let sizes = least-of q t a bytes df g .sizes in
-      (front-of _ _ _ (sizes .0 ∙ size-of q t a), front-of _ _ _ (sizes .1 ∙ size-of q t a))
+      let sizes = least-of q t a bytes df g .sizes in (
+        front-of _ _ _ (sizes .0 ∙ size-of q t a),
+        front-of _ _ _ (sizes .1 ∙ size-of q t a),
+        front-of _ _ _ (sizes .2 ∙ size-of q t a),
+      )
 
   over-on-map : (df : Bool) → (onMap (searchOf df) q t) .reply .outcome ≡ accepted → (found q df) .halt ≡ going
   unfolding onMap
@@ -67,7 +73,7 @@ module _ (q : Query) (t : Lent) (a : Admitted q t) (bytes : Bytes (q .image)) wh
   least-on-map : (df : Bool) → TimesAreLeast q (onMap (searchOf df) q t)
   least-on-map df e =
       let g = over-on-map df e in
-      rw (accepted-as df t g, fronts df t g .0, fronts df t g .1) (least-of q t a bytes df g)
+      rw (accepted-as df t g, fronts df t g .0, fronts df t g .1, fronts df t g .2) (least-of q t a bytes df g)
 
   -- which page is refused
   refused-on-map : (df : Bool) → PageIsFirstBad q (onMap (searchOf df) q t)
@@ -83,7 +89,7 @@ module _ (q : Query) (t : Lent) (a : Admitted q t) (bytes : Bytes (q .image)) wh
   unfolding searched
   dijkstras other same =
       let long : tooShort (stationCount (q .image)) other ≡ false =
-      rw (← (same .times), ← (same .preds), ← (same .marks), ← (same .list)) (a .long) in
+      rw (← (same .times), ← (same .moves), ← (same .preds), ← (same .marks), ← (same .list)) (a .long) in
       rw (passes q other (record { heading = a .heading; inside = a .inside; long = long }))
 
   list-on-map : ListAgainstDijkstra q t (onMap dfSearch q t)
@@ -98,7 +104,8 @@ module _ (q : Query) (t : Lent) (a : Admitted q t) (bytes : Bytes (q .image)) wh
         accepts = refl;
         reached = same-reached (frameOf q) (pagesOf q) (q .source) ok g;
         times = ours .0 ∙ sym (tables .0) ∙ sym (theirs .0);
-        preds = ours .1 ∙ sym (tables .1) ∙ sym (theirs .1);
+        moves = ours .1 ∙ sym (tables .1) ∙ sym (theirs .1);
+        preds = ours .2 ∙ sym (tables .2) ∙ sym (theirs .2);
         lists =
             rw (listed (frameOf q) (found q true) t going, listed (frameOf q) (found q false) other going)
             (df-list (frameOf q) (pagesOf q) (q .source) ok g);
@@ -136,14 +143,20 @@ module _ (df : Bool) (q : Query) (t : Lent) (other : List ℕ) (lengths : length
   images-agree agree =
       by-check (callCheck q t) agree ∙ ap (afterCheck (searchOf df) (withImage other q) t) check-agrees
 
--- C-11, two lengths: what is offered to the longer strip is offered to the shorter one too
-no-less-on-map : (df : Bool) (q : Query) (t : Lent) (a : Admitted q t) (bytes : Bytes (q .image)) (strip : ℕ)
+-- Two lengths: what is offered to the longer strip is offered to the shorter one too, so that no station has less time,
+-- nor as much in fewer moves, for the longer one.
+abbrev pub NoMoreThan : Query → Handed → Handed → Type 0
+NoMoreThan q shorter longer =
+    (v : ℕ)
+    → NoMore (timeAt (firsts q (shorter .tables .times)) v) (movesAt (firsts q (shorter .tables .moves)) v)
+    (timeAt (firsts q (longer .tables .times)) v) (movesAt (firsts q (longer .tables .moves)) v)
+
+no-more-on-map : (df : Bool) (q : Query) (t : Lent) (a : Admitted q t) (bytes : Bytes (q .image)) (strip : ℕ)
     → strip ≤ q .strip → (other : Lent) → Admitted (withStrip strip q) other
     → (onMap (searchOf df) q t) .reply .outcome ≡ accepted
-    → (onMap (searchOf df) (withStrip strip q) other) .reply .outcome ≡ accepted → (v : ℕ)
-    → getD (firsts q ((onMap (searchOf df) (withStrip strip q) other) .tables .times)) v noTime
-    ≤ getD (firsts q ((onMap (searchOf df) q t) .tables .times)) v noTime
-no-less-on-map df q t a bytes strip less other a′ e e′ v =
+    → (onMap (searchOf df) (withStrip strip q) other) .reply .outcome ≡ accepted
+    → NoMoreThan q (onMap (searchOf df) (withStrip strip q) other) (onMap (searchOf df) q t)
+no-more-on-map df q t a bytes strip less other a′ e e′ v =
     let short = withStrip strip q in
     let g = over-on-map q t a bytes df e in
     let g′ = over-on-map short other a′ bytes df e′ in
@@ -151,10 +164,12 @@ no-less-on-map df q t a bytes strip less other a′ e e′ v =
       accepted-as q t a bytes df t g,
       accepted-as short other a′ bytes df other g′,
       fronts q t a bytes df t g .0,
+      fronts q t a bytes df t g .1,
       fronts short other a′ bytes df other g′ .0,
+      fronts short other a′ bytes df other g′ .1,
     )
-    (fewer-moves-no-less (frameOf q) (pagesOf short) (pagesOf q) (q .source) (goes-shorter (q .image) less)
-    (least-of short other a′ bytes df g′) (least-of q t a bytes df g) v)
+    (fewer-moves-no-more (frameOf q) (pagesOf short) (pagesOf q) (q .source) (goes-shorter (q .image) less) refl
+    (least-costs-of short other a′ bytes df g′) (least-costs-of q t a bytes df g) v)
 
 -- All promises, by what 1 to 7 decide.
 module _ (q : Query) (t : Lent) (bytes : Bytes (q .image)) where
@@ -166,21 +181,30 @@ module _ (q : Query) (t : Lent) (bytes : Bytes (q .image)) where
   )
   either-search df o (passed a) = (least-on-map q t a bytes df, refused-on-map q t a bytes df)
 
-  no-less : (df : Bool) (o : Outcome) → Decided q t o
-      → NoLessThanShorter q (searchOf df) (afterCheck (searchOf df) q t o)
+  no-more : (df : Bool) (o : Outcome) → Decided q t o → (afterCheck (searchOf df) q t o) .reply .outcome ≡ accepted
+      → (strip : ℕ) (other : Lent) → strip ≤ q .strip
+      → (searched (searchOf df) (withStrip strip q) other) .reply .outcome ≡ accepted
+      → NoMoreThan q (searched (searchOf df) (withStrip strip q) other) (afterCheck (searchOf df) q t o)
   unfolding searched
-  no-less df o (turned-down number place k) e strip other less = never (cc)
-  no-less df o (passed a) e strip other less = by-check (callCheck short other) (decided short other)
+  no-more df o (turned-down number place k) e strip other less = never (cc)
+  no-more df o (passed a) e strip other less = by-check (callCheck short other) (decided short other)
     where
       short : Query
       short = withStrip strip q
 
       by-check : (d : Outcome) → Decided short other d
-          → (afterCheck (searchOf df) short other d) .reply .outcome ≡ accepted → (v : ℕ)
-          → getD (firsts q ((afterCheck (searchOf df) short other d) .tables .times)) v noTime
-          ≤ getD (firsts q ((onMap (searchOf df) q t) .tables .times)) v noTime
+          → (afterCheck (searchOf df) short other d) .reply .outcome ≡ accepted
+          → NoMoreThan q (afterCheck (searchOf df) short other d) (onMap (searchOf df) q t)
       by-check d (turned-down number place k) e′ = never (cc)
-      by-check d (passed a′) e′ = no-less-on-map df q t a bytes strip less other a′ e e′
+      by-check d (passed a′) e′ = no-more-on-map df q t a bytes strip less other a′ e e′
+
+  -- C-11's clause speaks of times; this law, of moves too.
+  pub longer-no-more : (df : Bool) → (searched (searchOf df) q t) .reply .outcome ≡ accepted
+      → (strip : ℕ) (other : Lent) → strip ≤ q .strip
+      → (searched (searchOf df) (withStrip strip q) other) .reply .outcome ≡ accepted
+      → NoMoreThan q (searched (searchOf df) (withStrip strip q) other) (searched (searchOf df) q t)
+  unfolding searched
+  longer-no-more df = no-more df (callCheck q t) (decided q t)
 
   list-of : (o : Outcome) → Decided q t o → ListAgainstDijkstra q t (afterCheck dfSearch q t o)
   list-of o (turned-down number place k) e = never (cc)
@@ -193,7 +217,7 @@ module _ (q : Query) (t : Lent) (bytes : Bytes (q .image)) where
     times = either-search df (callCheck q t) (decided q t) .0;
     refused = either-search df (callCheck q t) (decided q t) .1;
     images = images-agree df q t;
-    lengths = no-less df (callCheck q t) (decided q t);
+    lengths = λ e strip other less e′ v. no-more df (callCheck q t) (decided q t) e strip other less e′ v .0;
   })
 
   pub df-promised-of : (h : Handed) → h ≡ searched dfSearch q t → DfPromised q t h

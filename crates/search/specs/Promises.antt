@@ -15,6 +15,7 @@ use Rattle.reply.specs.Reply.{searched, listOf}
 -- Tables of the same lengths.
 pub record SameLengths (t other : Lent) : Type 0 where
   pub times : length (t .times) ≡ length (other .times)
+  pub moves : length (t .moves) ≡ length (other .moves)
   pub preds : length (t .preds) ≡ length (other .preds)
   pub marks : length (t .marks) ≡ length (other .marks)
   pub list : length (t .list) ≡ length (other .list)
@@ -24,15 +25,15 @@ module _ (q : Query) where
   abbrev pub firsts : List ℕ → List ℕ
   firsts table = take (stationCount (q .image)) table
 
-  -- Demand 2: the times and predecessors of an accepted search, and the number of stations reached.
+  -- Demand 2: the times, moves and predecessors of an accepted search, and the number of stations reached.
   abbrev pub TimesAreLeast : Handed → Type 0
   TimesAreLeast h =
       h .reply .outcome ≡ accepted
-      → LeastTimes (frameOf q) (pagesOf q) (q .source) (firsts (h .tables .times)) (firsts (h .tables .preds))
-      (h .reply .reached)
+      → LeastTimes (frameOf q) (pagesOf q) (q .source) (firsts (h .tables .times)) (firsts (h .tables .moves))
+      (firsts (h .tables .preds)) (h .reply .reached)
 
   -- "the refused page is that of the station, of all on bad pages, least by time and then number over walks that leave
-  -- only stations on good pages"; it stands last in the list
+  -- only stations on good pages", C-14: by time, then moves, and then number; it stands last in the list
   abbrev pub PageIsFirstBad : Handed → Type 0
   PageIsFirstBad h =
       (number p offset : ℕ) → h .reply .outcome ≡ refused number (on-page p offset)
@@ -40,16 +41,18 @@ module _ (q : Query) where
       × ((before : List ℕ) × (listOf h ≡ before ++ (p ∷ [])))
 
   -- What our search, which accepted, and Dijkstra's handed back: Dijkstra's accepts too, with as many stations reached
-  -- and the same times and predecessors, and our list against its list is as demand 3 says.
+  -- and the same times, moves and predecessors, and our list against its list is as demand 3 says.
   pub record AgainstDijkstra (ours dijkstras : Handed) : Type 0 where
     pub accepts : dijkstras .reply .outcome ≡ accepted
     pub reached : dijkstras .reply .reached ≡ ours .reply .reached
     pub times : firsts (ours .tables .times) ≡ firsts (dijkstras .tables .times)
+    pub moves : firsts (ours .tables .moves) ≡ firsts (dijkstras .tables .moves)
     pub preds : firsts (ours .tables .preds) ≡ firsts (dijkstras .tables .preds)
     pub lists : ListOf (frameOf q) (pagesOf q) (q .source) (listOf ours) (listOf dijkstras)
 
   -- Demand 3: our list against Dijkstra's, which is that of the plain search "called on the same image and source with
-  -- tables of the same lengths"; C-11: and "the same strip length".
+  -- tables of the same lengths"; C-11: and "the same strip length". C-14: "The list comparison with Dijkstra is between
+  -- these two", which both compare by time and then moves.
   abbrev pub ListAgainstDijkstra : Lent → Handed → Type 0
   ListAgainstDijkstra t h =
       h .reply .outcome ≡ accepted → (other : Lent) → SameLengths t other

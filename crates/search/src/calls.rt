@@ -1,7 +1,7 @@
-// The two public searches. Each takes an image, a source, the length of a strip in decimetres and four lent tables:
-// times, predecessors, marks and page list, with an entry for each station at least. What they promise is one record
-// (specs/Promises.antt): the whole outcome, refusals too (reply/specs/Reply.antt), demands 2 and 3, and that a longer
-// strip is no faster.
+// The two public searches. Each takes an image, a source, the length of a strip in decimetres and five lent tables:
+// times, moves, predecessors, marks and page list, with an entry for each station at least. What they promise is one
+// record (specs/Promises.antt): the whole outcome, refusals too (reply/specs/Reply.antt), demands 2 and 3, and that a
+// longer strip is no faster.
 
 ghost use mathlib.Core.Path.{_≡_};
 ghost use Rattle.net.specs.Run.{searchOf};
@@ -20,17 +20,20 @@ fn search(
     query: Query,
     image: &[u8],
     times: &mut [u32],
+    moves: &mut [u16],
     preds: &mut [u16],
     marks: &mut [u8],
     list: &mut [u8],
 ) -> Answer
     ensures outcome { λ r. ⌜
-        returned r (now (times .exit)) (now (preds .exit)) (now (marks .exit)) (now (list .exit)) ≡
+        returned r (now (times .exit)) (now (moves .exit)) (now (preds .exit))
+        (now (marks .exit)) (now (list .exit)) ≡
         searched (searchOf (query .df)) (askedBy query (now (image .entry)))
-        (lent (now (times .entry)) (now (preds .entry)) (now (marks .entry)) (now (list .entry))) ⌝ }
+        (lent (now (times .entry)) (now (moves .entry)) (now (preds .entry))
+        (now (marks .entry)) (now (list .entry))) ⌝ }
 {
-    match check_call(query, image, times, preds, marks, list) {
-        Checked::Whole => on_map(query, image, times, preds, marks, list),
+    match check_call(query, image, times, moves, preds, marks, list) {
+        Checked::Whole => on_map(query, image, times, moves, preds, marks, list),
         Checked::Refused(refusal) => Answer::Refused { refusal, count: 0 },
     }
 }
@@ -41,14 +44,17 @@ pub fn plain(
     source: u16,
     strip: u16,
     times: &mut [u32],
+    moves: &mut [u16],
     preds: &mut [u16],
     marks: &mut [u8],
     list: &mut [u8],
 ) -> Answer
     ensures promised { λ r. ⌜
         Promised plainSearch (asked (now (image .entry)) source strip)
-        (lent (now (times .entry)) (now (preds .entry)) (now (marks .entry)) (now (list .entry)))
-        (returned r (now (times .exit)) (now (preds .exit)) (now (marks .exit)) (now (list .exit))) ⌝ }
+        (lent (now (times .entry)) (now (moves .entry)) (now (preds .entry))
+        (now (marks .entry)) (now (list .entry)))
+        (returned r (now (times .exit)) (now (moves .exit)) (now (preds .exit))
+        (now (marks .exit)) (now (list .exit))) ⌝ }
 {
     search(
         Query {
@@ -58,6 +64,7 @@ pub fn plain(
         },
         image,
         times,
+        moves,
         preds,
         marks,
         list,
@@ -70,14 +77,17 @@ pub fn df(
     source: u16,
     strip: u16,
     times: &mut [u32],
+    moves: &mut [u16],
     preds: &mut [u16],
     marks: &mut [u8],
     list: &mut [u8],
 ) -> Answer
     ensures promised { λ r. ⌜
         DfPromised (asked (now (image .entry)) source strip)
-        (lent (now (times .entry)) (now (preds .entry)) (now (marks .entry)) (now (list .entry)))
-        (returned r (now (times .exit)) (now (preds .exit)) (now (marks .exit)) (now (list .exit))) ⌝ }
+        (lent (now (times .entry)) (now (moves .entry)) (now (preds .entry))
+        (now (marks .entry)) (now (list .entry)))
+        (returned r (now (times .exit)) (now (moves .exit)) (now (preds .exit))
+        (now (marks .exit)) (now (list .exit))) ⌝ }
 {
     search(
         Query {
@@ -87,6 +97,7 @@ pub fn df(
         },
         image,
         times,
+        moves,
         preds,
         marks,
         list,

@@ -18,6 +18,7 @@ pub fn df_times(image: &[u8], source: u16, strip: u16, times: &mut [u32]) -> Ans
         now (times .exit) ≡
         (searched dfSearch (asked (now (image .entry)) source strip) (roomy (now (times .entry)))) .tables .times ⌝ }
 {
+    let mut moves = [0u16; TABLE];
     let mut preds = [0u16; TABLE];
     let mut marks = [0u8; TABLE];
     let mut list = [0u8; TABLE];
@@ -26,6 +27,7 @@ pub fn df_times(image: &[u8], source: u16, strip: u16, times: &mut [u32]) -> Ans
         source,
         strip,
         times,
+        &mut moves,
         &mut preds,
         &mut marks,
         &mut list,

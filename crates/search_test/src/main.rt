@@ -1,10 +1,10 @@
 // Runs both searches over cases from standard input and prints the whole of what each call handed back: its answer
-// and every entry of the four lent tables. tests/make_search_cases.py writes the cases and, by searches of its own,
+// and every entry of the five lent tables. tests/make_search_cases.py writes the cases and, by searches of its own,
 // the text that this program must print.
 //
 // The input is a row of maps, as the crate cases_io reads them. A call is the source, the strip's length and the
-// lengths of times, predecessors, marks and page list (six u16), the number of changes (u8), and the changes. It runs
-// the plain search and then the DF search.
+// lengths of times, moves, predecessors, marks and page list (seven u16), the number of changes (u8), and the changes.
+// It runs the plain search and then the DF search.
 
 use cases_io::BYTES;
 use cases_io::Map;
@@ -22,6 +22,7 @@ fn print_lengths(call: &[u8]) {
     print_number(b" ", word_at(call, 6) as u64);
     print_number(b" ", word_at(call, 8) as u64);
     print_number(b" ", word_at(call, 10) as u64);
+    print_number(b" ", word_at(call, 12) as u64);
     io::write_all(STDOUT_FILENO, b"\n");
 }
 
@@ -32,9 +33,9 @@ fn print_call(call: &[u8]) {
 }
 
 // Prints a call, makes its changes and runs both searches.
-fn answer_call(image: &mut [u8], call: &[u8; 13]) {
+fn answer_call(image: &mut [u8], call: &[u8; 15]) {
     print_call(call);
-    change_bytes(image, call[12]);
+    change_bytes(image, call[14]);
     io::write_all(STDOUT_FILENO, b"  plain: ");
     run_search(false, image, call);
     io::write_all(STDOUT_FILENO, b"  df: ");
@@ -43,7 +44,7 @@ fn answer_call(image: &mut [u8], call: &[u8; 13]) {
 
 // Reads a call of the map at hand and answers it, and says what is at hand then.
 fn run_call(space: &mut [u8], map: Map) -> Map {
-    let mut call = [0u8; 13];
+    let mut call = [0u8; 15];
     io::read_full(STDIN_FILENO, &mut call);
     let n = io::count(map.size as isize, space);
     answer_call(&mut space[..n], &call);

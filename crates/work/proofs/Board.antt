@@ -5,7 +5,8 @@ use Rattle.common.proofs.Ground.{_≡_, refl, sym, _∙_, ap, Bool, true, false
 use Rattle.common.proofs.Ground.{ℕ, _+_, _-_, _/_, _≤_, _<_, min, arith, decLt, ℕ-discrete, length, getD, set, eqb, ltb}
 use Rattle.common.proofs.Ground.{getD-set-same, getD-set-other, ltb-true, ltb-false, lt-ltb, eq-eqb, ne-eqb}
 use Rattle.common.proofs.Cases.{le-or-lt}
-use Rattle.common.specs.Numbers.{nobody, noTime}
+use Rattle.common.specs.Numbers.{nobody}
+use Rattle.common.specs.Costs.{noCost}
 use Rattle.common.specs.Pick.{pick}
 use Rattle.net.specs.Search.{State, costOf, predOf, withPage}
 use Rattle.net.specs.Run.{waits, stopWaiting}
@@ -24,17 +25,17 @@ use Rattle.work.specs.Board.{CellIs, keyIf, leastOn, Serving, frameOf, P
 
 -- One station's cell, and the cost and predecessor that a move from u offers it.
 module _ {source v time pred cell : ℕ} (c : CellIs source v time pred cell) (u sum : ℕ) (from : u < 2048)
-    (some : 0 < sum) (fits : sum < noTime) where
-  -- its cost is its time, or above every sum
+    (some : 0 < sum) (fits : sum < noCost) where
+  -- the cost in the cell is its own, or above every sum
   cost-test : ltb sum (cell / 2048) ≡ ltb sum time
   cost-test = dite (ℕ-discrete v source)
       (λ e. rw (c .own e .0, c .own e .2))
       (λ n. ⊎-elim
       (λ none. rw (c .untimed n none .0, c .untimed n none .2) (lt-ltb sum _ (omega arith) ∙ sym (lt-ltb sum _ fits)))
       (λ has. ap (ltb sum) (omega (arith, c .timed n has .0, c .timed n has .1)))
-      (le-or-lt noTime time))
+      (le-or-lt noCost time))
 
-  -- the lesser cell is the one offered, or has the time that there was
+  -- the lesser cell is the one offered, or has the cost that there was
   cell-lowered : sum < time → CellIs source v sum u (min cell (packed sum u))
   cell-lowered l =
       let above : sum < cell / 2048 = ltb-true _ _ (cost-test ∙ lt-ltb sum time l) in
@@ -56,7 +57,7 @@ module _ {source v time pred cell : ℕ} (c : CellIs source v time pred cell) (u
   }
 
 -- The lesser of a station's key and of the one that a sum offers, by whether the sum is less, and whether it waits.
-key-after : (less w : Bool) (sum time v : ℕ) {time′ : ℕ} → ltb sum time ≡ less → time′ ≡ min sum time → sum < noTime
+key-after : (less w : Bool) (sum time v : ℕ) {time′ : ℕ} → ltb sum time ≡ less → time′ ≡ min sum time → sum < noCost
     → v < 2048 → min (keyIf w time v) (pick less (packed sum v) nobody) ≡ keyIf (less || w) time′ v
 key-after true true sum time v e is fits small = omega (arith, ltb-true sum time e)
 key-after true false sum time v e is fits small = omega (arith, ltb-true sum time e)
@@ -114,9 +115,9 @@ stopped-tables true u s = (refl, refl)
 stopped-tables false u s = (refl, refl)
 
 module _ {q : Serving} {places : List ℕ} {hand : ℕ} {s : State} {m : Memory} (b : Board q places hand s m) where
-  -- A relaxed move, of which the net says what it does to its target's time and predecessor, and who waits then.
+  -- A relaxed move, of which the net says what it does to its target's cost and predecessor, and who waits then.
   module _ {u v sum : ℕ} {t : State} {m′ : Memory} (from : u < 2048) (to : v < length (q .directory)) (some : 0 < sum)
-      (fits : sum < noTime) (net : NetRelaxed (frameOf q) u v sum s t)
+      (fits : sum < noCost) (net : NetRelaxed (frameOf q) u v sum s t)
       (wakes : (x : ℕ) → waits (q .df) (frameOf q) t x
       ≡ ((eqb x v && ltb sum (costOf (frameOf q) s x)) || waits (q .df) (frameOf q) s x))
       (r : Relaxed places u v sum m m′) where

@@ -1,10 +1,11 @@
--- The least key names the station of least time, then lowest number, of those that wait: on a page by its slots, of all
+-- The least key names the station of least cost, then lowest number, of those that wait: on a page by its slots, of all
 -- by the leaves.
 use Rattle.common.proofs.Ground.{_≡_, refl, sym, _∙_, ap, Bool, true, false, ⊎-elim, List, ℕ, _+_, _-_, _%_, _≤_, _<_}
 use Rattle.common.proofs.Ground.{arith, length, getD, take, drop, length-take, length-drop, getD-take, getD-drop}
 use Rattle.common.proofs.Ground.{lt-ltb, le-ltb}
 use Rattle.common.proofs.Cases.{le-or-lt}
-use Rattle.common.specs.Numbers.{nobody, noTime}
+use Rattle.common.specs.Numbers.{nobody}
+use Rattle.common.specs.Costs.{noCost}
 use Rattle.net.specs.declared.Choice.{Choice}
 use Rattle.net.specs.declared.Choice.the-variants.{Station, Nobody}
 use Rattle.net.specs.Search.{State, going, costOf}
@@ -21,7 +22,7 @@ use Rattle.work.proofs.Board.{page-end}
 
 -- The least key of some stations below n: at most each one's, and one of theirs unless it is nobody's.
 record LeastOf (n : ℕ) (time : ℕ → ℕ) (Some : ℕ → Type 0) (key : ℕ) : Type 0 where
-  timed : (v : ℕ) → Some v → time v < noTime
+  timed : (v : ℕ) → Some v → time v < noCost
   most : (v : ℕ) → v < n → Some v → key ≤ packed (time v) v
   found : key < nobody → (v : ℕ) × (v < n) × Some v × (key ≡ packed (time v) v)
 

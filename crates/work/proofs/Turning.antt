@@ -5,6 +5,7 @@ use Rattle.common.proofs.Ground.{_≡_, refl, sym, _∙_, ap, _⊎_, inl, inr, 
 use Rattle.common.proofs.Ground.{append-nil, List·Memᴰ·head, Memᴰ·append-right, ℕ, suc, _+_, _-_, _/_, _%_, _≤_, _<_}
 use Rattle.common.proofs.Ground.{arith, ℕ-discrete, length, getD, set, take, drop, ltb, lt-ltb, le-ltb}
 use Rattle.common.specs.Numbers.{nobody}
+use Rattle.common.specs.Costs.{cost}
 use Rattle.net.specs.declared.Choice.the-variants.{Station}
 use Rattle.net.specs.Net.{Move, Frame, Goes}
 use Rattle.net.specs.Search.{State, costOf, relax, relaxAll}
@@ -54,8 +55,8 @@ module _ {q : Serving} {k p left least : ℕ} {places layout : List ℕ} {m : Me
     abbrev x : ℕ
     x = least % 2048
 
-    abbrev time : ℕ
-    time = costOf F (h .state) x
+    abbrev held : ℕ
+    held = costOf F (h .state) x
 
     abbrev stopped : State
     stopped = stopWaiting (q .df) x (h .state)
@@ -75,8 +76,8 @@ module _ {q : Serving} {k p left least : ℕ} {places layout : List ℕ} {m : Me
     laid : Laid layout p x (rowsOf (h .moves x))
     laid = h .rows x inside on
 
-    cost : getD (m .cells) x 0 / 2048 ≡ time
-    cost =
+    in-cell : getD (m .cells) x 0 / 2048 ≡ held
+    in-cell =
         let c = h .board .station x inside .0 in
         let timed = visit-timed ok (h .in-hand) first-x in
         dite (ℕ-discrete x (q .source)) (λ e. omega (arith, c .own e .0, c .own e .2))
@@ -90,27 +91,26 @@ module _ {q : Serving} {k p left least : ℕ} {places layout : List ℕ} {m : Me
       leads : next .target < length (q .directory)
       leads = visit-move ok (h .in-hand) first-x turns-more before rest next split .target
 
-      target : entryOf (next .weight) (next .target) % 2048 ≡ next .target
+      target : entryOf (next .time) (next .target) % 2048 ≡ next .target
       target = omega (arith, leads, d .few)
 
       move-board : {hand : ℕ} {a b : Memory} → Board q places hand part a
-          → Relaxed places x (entryOf (next .weight) (next .target) % 2048)
-          (time + entryOf (next .weight) (next .target) / 2048) a b
+          → Relaxed places x (entryOf (next .time) (next .target) % 2048)
+          (held + cost (entryOf (next .time) (next .target) / 2048) 1) a b
           → Board q places hand (relax F ltb x next part) b
       move-board board r =
           let n = visit-move ok (h .in-hand) first-x turns-more before rest next split in
           let same = visit-time ok (h .in-hand) first-x turns-more before (next ∷ rest) split in
           let standing = visit-standing ok (h .in-hand) first-x turns-more before (next ∷ rest) split in
           let net = rw same at (relax-relaxed F x next part (standing .sizes) leads) in
-          let goes : Goes F (q .page) x (next .target) (next .weight) =
+          let goes : Goes F (q .page) x (next .target) (next .time) =
           rw (on, h .in-hand .content, split) (Memᴰ·append-right before (List·Memᴰ·head refl)) in
-          let weight : entryOf (next .weight) (next .target) / 2048 ≡ next .weight = omega (arith, leads, d .few) in
-          relaxed-board board (omega arith) leads
-          (omega (arith, ok .moves x (next .target) (next .weight) goes .0)) (n .sum-below) net (n .wakes)
-          (rw (target, weight) at r)
+          let takes : entryOf (next .time) (next .target) / 2048 ≡ next .time = omega (arith, leads, d .few) in
+          relaxed-board board (omega arith) leads (omega arith) (n .sum-below) net (n .wakes)
+          (rw (target, takes) at r)
 
     visit-board : (before rest : List Move) → h .moves x ≡ before ++ rest → {hand : ℕ} {a b : Memory}
-        → Board q places hand (relaxAll F ltb x before stopped) a → Relaxing places x time (rowsOf rest) a b
+        → Board q places hand (relaxAll F ltb x before stopped) a → Relaxing places x held (rowsOf rest) a b
         → Board q places hand (relaxAll F ltb x (h .moves x) stopped) b
     visit-board before [] split board none = rw (split, append-nil) board
     visit-board before (next ∷ rest) split board (more r relaxing) =
@@ -132,7 +132,7 @@ module _ {q : Serving} {k p left least : ℕ} {places layout : List ℕ} {m : Me
     place = placed-at (h .board .placing) x inside
 
     costs : getD (m .cells) x 0 / 2048 + longest < mostCost
-    costs = let timed = visit-timed ok (h .in-hand) first-x in let is = cost in omega arith
+    costs = let timed = visit-timed ok (h .in-hand) first-x in let is = in-cell in omega arith
 
     row : LaidOut places layout x
     row = record {
@@ -163,7 +163,7 @@ module _ {q : Serving} {k p left least : ℕ} {places layout : List ℕ} {m : Me
       size = h .size;
       page = h .page;
       rows = h .rows;
-      board = visit-board [] (h .moves x) refl stopped-stands (rw (e, cost, laid .entries) at (visited .relaxing));
+      board = visit-board [] (h .moves x) refl stopped-stands (rw (e, in-cell, laid .entries) at (visited .relaxing));
       key = found ∙ rw (low, high);
     }
 
@@ -188,7 +188,7 @@ module _ {q : Serving} {k p left least : ℕ} {places layout : List ℕ} {m : Me
       last-turn one relaxing =
           let hand = hand-turn ok (h .in-hand) first-x turns-more in
           let same = hand-made ok hand (omega (arith, h .count)) in
-          let moves = rw (leaf .named, cost, laid .entries) at relaxing in
+          let moves = rw (leaf .named, in-cell, laid .entries) at relaxing in
           record {
             going = rw same at (hand-going ok hand);
             board = rw same at (visit-board [] (h .moves x) refl stopped-left moves);

@@ -6,7 +6,8 @@ use mathlib.Core.List.{List}
 use Prim.Native.Nat.{ℕ, _+_, _-_, _%_, _≤_, _<_}
 use lib.Dec.{ltb}
 use lib.ListN.{length, getD}
-use Rattle.common.specs.Numbers.{noTime, sourceMark, noPred, nobody}
+use Rattle.common.specs.Numbers.{sourceMark, noPred, nobody}
+use Rattle.common.specs.Costs.{noCost}
 use Rattle.common.specs.Pick.{pick}
 use Rattle.net.specs.declared.Choice.{Choice}
 use Rattle.net.specs.declared.Choice.the-variants.{Station, Nobody}
@@ -18,16 +19,16 @@ use Rattle.layout.specs.Places.{firstSlot, slotOf, Placed}
 use Rattle.queue.specs.Keys.{packed, leastFrom}
 use Rattle.cells.specs.Cells.{Memory, Room}
 
--- The cell of station v: the source's is 0, nobody's where v has no time, and otherwise time and predecessor.
-pub record CellIs (source v time pred cell : ℕ) : Type 0 where
-  pub own : v ≡ source → (time ≡ 0) × (pred ≡ sourceMark) × (cell ≡ 0)
-  pub timed : v ≢ source → time < noTime → (pred < 2048) × (cell ≡ packed time pred)
-  pub untimed : v ≢ source → noTime ≤ time → (time ≡ noTime) × (pred ≡ noPred) × (cell ≡ nobody)
+-- The cell of station v: the source's is 0, nobody's where v has no time, and otherwise cost and predecessor.
+pub record CellIs (source v held pred cell : ℕ) : Type 0 where
+  pub own : v ≡ source → (held ≡ 0) × (pred ≡ sourceMark) × (cell ≡ 0)
+  pub timed : v ≢ source → held < noCost → (pred < 2048) × (cell ≡ packed held pred)
+  pub untimed : v ≢ source → noCost ≤ held → (held ≡ noCost) × (pred ≡ noPred) × (cell ≡ nobody)
 
 -- The key of a station that waits, or does not.
 abbrev pub keyIf : Bool → ℕ → ℕ → ℕ
-keyIf true time v = packed time v
-keyIf false time v = nobody
+keyIf true held v = packed held v
+keyIf false held v = nobody
 
 -- The least key of those that wait on page p, and the station that a least key names.
 abbrev pub leastOn : List ℕ → List ℕ → ℕ → ℕ

@@ -21,7 +21,7 @@ pub record Stands (q : Serving) (k : ℕ) (places : List ℕ) (m : Memory) : Typ
 
 -- The moves of a station as a row.
 abbrev pub rowsOf : List Move → List ℕ
-rowsOf = map (λ m. entryOf (m .weight) (m .target))
+rowsOf = map (λ m. entryOf (m .time) (m .target))
 
 -- Good page p has been in hand for some turns since k references, and gets so many more: the rows of its stations are
 -- laid out, the memory stands for the state reached, and `least` is the least key of those that wait on p.

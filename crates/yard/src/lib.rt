@@ -34,6 +34,7 @@ pub extern "C" fn yard_plain(
     source: u16,
     strip: u16,
     times: &mut [u32],
+    moves: &mut [u16],
     preds: &mut [u16],
     marks: &mut [u8],
     list: &mut [u8],
@@ -41,11 +42,13 @@ pub extern "C" fn yard_plain(
 ) -> u32
     ensures told { λ r. ⌜
         SearchTold plainSearch (Promised plainSearch) (asked (now (image .entry)) source strip)
-        (lent (now (times .entry)) (now (preds .entry)) (now (marks .entry)) (now (list .entry)))
-        (lent (now (times .exit)) (now (preds .exit)) (now (marks .exit)) (now (list .exit)))
+        (lent (now (times .entry)) (now (moves .entry)) (now (preds .entry))
+        (now (marks .entry)) (now (list .entry)))
+        (lent (now (times .exit)) (now (moves .exit)) (now (preds .exit))
+        (now (marks .exit)) (now (list .exit)))
         r (now (answer .entry)) (now (answer .exit)) ⌝ }
 {
-    let answered = search::calls::plain(image, source, strip, times, preds, marks, list);
+    let answered = search::calls::plain(image, source, strip, times, moves, preds, marks, list);
     tell_search(answered, answer)
 }
 
@@ -56,6 +59,7 @@ pub extern "C" fn yard_df(
     source: u16,
     strip: u16,
     times: &mut [u32],
+    moves: &mut [u16],
     preds: &mut [u16],
     marks: &mut [u8],
     list: &mut [u8],
@@ -63,11 +67,13 @@ pub extern "C" fn yard_df(
 ) -> u32
     ensures told { λ r. ⌜
         SearchTold dfSearch DfPromised (asked (now (image .entry)) source strip)
-        (lent (now (times .entry)) (now (preds .entry)) (now (marks .entry)) (now (list .entry)))
-        (lent (now (times .exit)) (now (preds .exit)) (now (marks .exit)) (now (list .exit)))
+        (lent (now (times .entry)) (now (moves .entry)) (now (preds .entry))
+        (now (marks .entry)) (now (list .entry)))
+        (lent (now (times .exit)) (now (moves .exit)) (now (preds .exit))
+        (now (marks .exit)) (now (list .exit)))
         r (now (answer .entry)) (now (answer .exit)) ⌝ }
 {
-    let answered = search::calls::df(image, source, strip, times, preds, marks, list);
+    let answered = search::calls::df(image, source, strip, times, moves, preds, marks, list);
     tell_search(answered, answer)
 }
 

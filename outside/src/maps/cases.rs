@@ -4,8 +4,8 @@
 use super::damage::{change_byte, change_length, spoil_heading, spoil_page};
 use super::{good, page_bytes, Command, Map, MOST_STATIONS, PAGE_BYTES};
 use crate::random::Random;
-use crate::reference::image::{Fault, Move};
-use crate::reference::{NO_PREDECESSOR, SOURCE};
+use crate::reference::image::{Fault, Image, Move};
+use crate::reference::{walks, Query, NO_PREDECESSOR, NO_TIME, SOURCE};
 
 pub struct Case {
     pub kind: &'static str,
@@ -21,18 +21,19 @@ pub struct Case {
 
 pub fn draw(random: &mut Random) -> Case {
     let map = good::draw(random);
+    let source = source(&map, random);
+    let mut strips = [strip(&map, random), strip(&map, random)];
+    strips.sort();
     let (kind, image, known) = match random.below(100) {
         0..=39 => ("good map", map.image(), Some(vec![None; map.pages])),
-        40..=67 => bad_pages(&map, random),
+        40..=47 => bad_pages_at_one_time(&map, Query { source, strip: strips[0] }, random),
+        48..=67 => bad_pages(&map, random),
         68..=77 => ("bytes changed", bytes_changed(&map, random), None),
         78..=85 => ("bad heading", bad_heading(&map, random), None),
         86..=91 => ("loose pages", loose_pages(&map, random), None),
         92..=95 => ("other length", other_length(&map, random), None),
         _ => ("random bytes", random_bytes(random), None),
     };
-    let source = source(&map, random);
-    let mut strips = [strip(&map, random), strip(&map, random)];
-    strips.sort();
     Case { kind, image, source, strips, stations: map.stations(), known }
 }
 
@@ -59,10 +60,41 @@ type Made = (&'static str, Vec<u8>, Option<Vec<Option<Fault>>>);
 fn bad_pages(map: &Map, random: &mut Random) -> Made {
     let one_in = random.pick(&[2, 4, map.pages]);
     let sure = random.below(map.pages);
+    let bad: Vec<bool> = (0..map.pages).map(|page| page == sure || random.one_in(one_in)).collect();
+    let (image, known) = with_bad(map, &bad, random);
+    ("bad pages", image, Some(known))
+}
+
+/// Two pages spoiled that a search comes to at one time; if there are none, any.
+fn bad_pages_at_one_time(map: &Map, query: Query, random: &mut Random) -> Made {
+    let Some(pair) = pages_at_one_time(map, query, random) else { return bad_pages(map, random) };
+    let bad: Vec<bool> = (0..map.pages).map(|page| pair.contains(&page)).collect();
+    let (image, known) = with_bad(map, &bad, random);
+    ("bad pages at one time", image, Some(known))
+}
+
+/// Two pages that a search comes to at one time: first to the one whose station has fewer moves, but a higher number.
+fn pages_at_one_time(map: &Map, query: Query, random: &mut Random) -> Option<[usize; 2]> {
+    let bytes = map.image();
+    let image = Image::open(&bytes).ok().filter(|image| usize::from(query.source) < image.stations)?;
+    let truth = walks::truth(&image, &walks::read_all(&image), query);
+    let way = |station: u16| (truth.times[usize::from(station)], truth.moves[usize::from(station)], station);
+    let first = (0..map.pages).filter_map(|page| Some((page, map.stations_of(page).into_iter().map(way).min()?)));
+    let first: Vec<_> = first.filter(|(_, (time, ..))| *time != NO_TIME).collect();
+    let mut pairs = Vec::new();
+    for &(page, (time, moves, station)) in &first {
+        let later = first.iter().filter(|(_, other)| other.0 == time && other.1 > moves && other.2 < station);
+        pairs.extend(later.map(|&(other, _)| [page, other]));
+    }
+    (!pairs.is_empty()).then(|| random.pick(&pairs))
+}
+
+/// The map's image with bad pages, and how reading each page has to end.
+fn with_bad(map: &Map, bad: &[bool], random: &mut Random) -> (Vec<u8>, Vec<Option<Fault>>) {
     let mut image = map.front();
     let mut known = Vec::new();
     for page in 0..map.pages {
-        if page == sure || random.one_in(one_in) {
+        if bad[page] {
             let spoiled = spoil_page(map, page, random);
             image.extend(spoiled.bytes);
             known.push(Some(spoiled.fault));
@@ -71,7 +103,7 @@ fn bad_pages(map: &Map, random: &mut Random) -> Made {
             known.push(None);
         }
     }
-    ("bad pages", image, Some(known))
+    (image, known)
 }
 
 fn bytes_changed(map: &Map, random: &mut Random) -> Vec<u8> {

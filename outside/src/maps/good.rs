@@ -1,7 +1,8 @@
 //! Good maps of many shapes: small and full, with many equal sums, with pages that are entered again and again,
-//! chains, stations without moves, pages without stations, times of 1 and of 65,535, moves without and with limits.
+//! chains, stations without moves, pages without stations, times of 1 and of 65,535, moves without and with limits; and
+//! those of `yards`.
 
-use super::{Map, MOST_ON_A_PAGE, MOST_PAGES, MOST_STATIONS};
+use super::{yards, Map, MOST_ON_A_PAGE, MOST_PAGES, MOST_STATIONS};
 use crate::random::Random;
 
 /// How stations lie on pages.
@@ -30,6 +31,9 @@ enum Reach {
 enum Pace {
     One,
     Most,
+    /// 1 to 3.
+    Few,
+    /// 1 to 4.
     Small,
     Wide,
     /// As far as the numbers differ: every way that does not turn back takes the same time.
@@ -39,7 +43,7 @@ enum Pace {
 }
 
 /// What the moves of a map are like.
-struct Terms {
+pub struct Terms {
     pace: Pace,
     /// So many moves of four have a limit.
     limited: usize,
@@ -59,38 +63,32 @@ enum Chain {
 const LAYOUTS: [Layout; 4] = [Layout::Blocks, Layout::RoundRobin, Layout::Scattered, Layout::FewPages];
 const REACHES: [Reach; 7] =
     [Reach::Any, Reach::Near, Reach::Forward, Reach::Back, Reach::SamePage, Reach::OtherPage, Reach::Hub];
-const PACES: [Pace; 6] = [Pace::One, Pace::Most, Pace::Small, Pace::Wide, Pace::Distance, Pace::Square];
+const PACES: [Pace; 7] = [Pace::One, Pace::Most, Pace::Few, Pace::Small, Pace::Wide, Pace::Distance, Pace::Square];
 const CHAINS: [Chain; 5] = [Chain::None, Chain::None, Chain::Up, Chain::Down, Chain::Ring];
 
 /// A good map of any shape.
 pub fn draw(random: &mut Random) -> Map {
-    if random.one_in(1500) {
-        return longest_ring(random);
+    if random.one_in(600) {
+        return yards::longest_ring(random);
     }
-    let (stations, pages) = size(random);
+    // The smallest maps are too small for a form that shows.
+    let formed = random.one_in(3);
+    let sort = random.below(if formed { 120 } else { 200 });
+    let (stations, pages) = size(random, sort);
     let mut map = Map::new(pages, directory(random, stations, pages));
     let terms = terms(random);
+    if formed {
+        return yards::draw(map, random, &terms);
+    }
     lay_chain(&mut map, random, &terms);
     scatter_moves(&mut map, random, &terms);
     map
 }
 
-/// A ring of slow moves and nothing else: from every source the greatest times that a map can have.
-fn longest_ring(random: &mut Random) -> Map {
-    let stations = random.from_to(MOST_STATIONS - 3, MOST_STATIONS);
-    let dealt = random.one_in(2);
-    let limit = random.pick(&[None, Some(65_535)]);
-    let page = |station| if dealt { station % MOST_PAGES } else { station * MOST_PAGES / stations };
-    let mut map = Map::new(MOST_PAGES, (0..stations).map(|station| page(station) as u8).collect());
-    for station in 0..stations {
-        map.add(station, (station + 1) % stations, 65_535, limit);
-    }
-    map
-}
-
-/// Mostly small, so that many cases are tried; the largest size of all now and then.
-fn size(random: &mut Random) -> (usize, usize) {
-    let (most_stations, most_pages) = match random.below(200) {
+/// Mostly small, so that many cases are tried; the largest size of all now and then. The sort is below 200, and the
+/// greater it is, the smaller the map.
+fn size(random: &mut Random, sort: usize) -> (usize, usize) {
+    let (most_stations, most_pages) = match sort {
         0 => return (MOST_STATIONS, MOST_PAGES),
         1 => (MOST_STATIONS, MOST_PAGES),
         2..=9 => (500, 120),
@@ -187,8 +185,13 @@ fn look_for(map: &Map, random: &mut Random, wanted: impl Fn(u8) -> bool) -> usiz
 impl Terms {
     fn add_move(&self, map: &mut Map, random: &mut Random, from: usize, target: usize) {
         let time = self.time(random, from, target);
-        let limit = (random.below(4) < self.limited).then(|| self.limit(random));
+        let limit = self.some_limit(random);
         map.add(from, target, time, limit);
+    }
+
+    /// The limit of a move that has one.
+    pub fn some_limit(&self, random: &mut Random) -> Option<u16> {
+        (random.below(4) < self.limited).then(|| self.limit(random))
     }
 
     fn time(&self, random: &mut Random, from: usize, target: usize) -> u16 {
@@ -196,6 +199,7 @@ impl Terms {
         let time = match self.pace {
             Pace::One => 1,
             Pace::Most => 65_535,
+            Pace::Few => random.from_to(1, 3),
             Pace::Small => random.from_to(1, 4),
             Pace::Wide => random.from_to(1, 65_535),
             Pace::Distance => apart,

@@ -1,13 +1,19 @@
 //! "The two searches" of document 01, by the letter: every choice is a look at all stations, every reference reads
-//! the page anew. Of the moves they use those that are open to the strip.
+//! the page anew. Of the moves they use those that are open to the strip, and they compare by document 02's "Fewer
+//! lifts": "less means less time, then fewer moves".
 
 use super::image::{Fault, Image, Station};
-use super::{Answer, Query, Search, Tables, NO_PREDECESSOR, NO_TIME, SOURCE};
+use super::{Answer, Query, Search, Tables, NO_MOVES, NO_PREDECESSOR, NO_TIME, SOURCE};
 
-/// "Per station the state has a time or none, a predecessor, a settled flag and a fresh flag."
+/// The time of a way and its number of moves: "two ways are now equal only if time and number of moves agree". Pairs
+/// are compared by their first numbers, and only if these are equal by the second ones.
+type Sum = (u64, u64);
+
+/// "Per station the state has a time or none, a predecessor, a settled flag and a fresh flag"; beside the time stands
+/// the number of moves.
 #[derive(Clone, Copy, Default)]
 struct State {
-    time: Option<u64>,
+    sum: Option<Sum>,
     predecessor: Option<u16>,
     settled: bool,
     fresh: bool,
@@ -16,6 +22,8 @@ struct State {
 struct Run<'a> {
     image: &'a Image<'a>,
     query: Query,
+    /// What a move adds to the number of moves.
+    lift: u64,
     states: Vec<State>,
     list: Vec<u8>,
 }
@@ -36,10 +44,9 @@ pub fn search(kind: Search, image: &[u8], query: Query, tables: Tables) -> Answe
     if usize::from(query.source) >= n {
         return Answer::refused(6);
     }
-    if [tables.times.len(), tables.preds.len(), tables.marks.len(), tables.list.len()]
-        .iter()
-        .any(|&length| length < n)
-    {
+    let Tables { times, moves, preds, marks, list } = &tables;
+    let lengths = [times.len(), moves.len(), preds.len(), marks.len(), list.len()];
+    if lengths.iter().any(|&length| length < n) {
         return Answer::refused(7);
     }
     let mut run = Run::start(&image, query);
@@ -51,7 +58,7 @@ pub fn search(kind: Search, image: &[u8], query: Query, tables: Tables) -> Answe
     let count = run.list.len() as u32;
     match ended {
         Ok(()) => {
-            let reached = run.states.iter().filter(|state| state.time.is_some()).count() as u32;
+            let reached = run.states.iter().filter(|state| state.sum.is_some()).count() as u32;
             Answer { count, reached, ..Answer::default() }
         }
         Err(BadPage { page, fault: Fault { refusal, offset } }) => {
@@ -60,12 +67,21 @@ pub fn search(kind: Search, image: &[u8], query: Query, tables: Tables) -> Answe
     }
 }
 
+/// The list of a DF search that orders by time alone, as before "Fewer lifts": no move adds to the number of moves, and
+/// so all ways of one time are equal. The fuzzer counts where ours is another.
+pub fn df_list_by_time_alone(image: &Image, query: Query) -> Vec<u8> {
+    let mut run = Run { lift: 0, ..Run::start(image, query) };
+    // The list stands at a bad page too.
+    let _ = run.steps(Search::Df);
+    run.list
+}
+
 impl<'a> Run<'a> {
-    /// "At the start the source has time 0 and nothing is settled or fresh."
+    /// "At the start the source has time 0 and nothing is settled or fresh"; its way has no moves.
     fn start(image: &'a Image<'a>, query: Query) -> Self {
         let mut states = vec![State::default(); image.stations];
-        states[usize::from(query.source)].time = Some(0);
-        Run { image, query, states, list: Vec::new() }
+        states[usize::from(query.source)].sum = Some((0, 0));
+        Run { image, query, lift: 1, states, list: Vec::new() }
     }
 
     fn steps(&mut self, kind: Search) -> Result<(), BadPage> {
@@ -79,11 +95,11 @@ impl<'a> Run<'a> {
         Ok(())
     }
 
-    /// The wanted station of least time, then lowest number; none if no wanted one has a time.
+    /// The wanted station of least time, then fewest moves, then lowest number; none if no wanted one has a time.
     fn least(&self, among: impl Iterator<Item = usize>, wanted: impl Fn(&State) -> bool) -> Option<usize> {
         let timed = among.filter(|&station| wanted(&self.states[station]));
         timed
-            .filter_map(|station| self.states[station].time.map(|time| (time, station)))
+            .filter_map(|station| self.states[station].sum.map(|sum| (sum, station)))
             .min()
             .map(|(_, station)| station)
     }
@@ -129,21 +145,23 @@ impl<'a> Run<'a> {
         }
     }
 
-    fn relax(&mut self, from: usize, target: usize, time: u64) {
-        let sum = self.states[from].time.expect("only a station with a time is relaxed from") + time;
+    fn relax(&mut self, from: usize, target: usize, step: u64) {
+        let (time, moves) = self.states[from].sum.expect("only a station with a time is relaxed from");
+        let sum = (time + step, moves + self.lift);
         let from = from as u16;
         let state = &mut self.states[target];
-        if state.time.is_none_or(|before| sum < before) {
-            *state = State { time: Some(sum), predecessor: Some(from), fresh: false, ..*state };
-        } else if state.time == Some(sum) && state.predecessor.is_some_and(|before| from < before) {
+        if state.sum.is_none_or(|before| sum < before) {
+            *state = State { sum: Some(sum), predecessor: Some(from), fresh: false, ..*state };
+        } else if state.sum == Some(sum) && state.predecessor.is_some_and(|before| from < before) {
             state.predecessor = Some(from);
         }
     }
 
-    /// Writes the first N entries of times, predecessors and marks, and the list's count entries; no others.
+    /// Writes the first N entries of times, moves, predecessors and marks, and the list's count entries; no others.
     fn write(&self, accepted: bool, tables: Tables) {
         for (station, state) in self.states.iter().enumerate() {
-            tables.times[station] = state.time.map_or(NO_TIME, |time| time as u32);
+            tables.times[station] = state.sum.map_or(NO_TIME, |(time, _)| time as u32);
+            tables.moves[station] = state.sum.map_or(NO_MOVES, |(_, moves)| moves as u16);
             tables.preds[station] = state.predecessor.unwrap_or(NO_PREDECESSOR);
             tables.marks[station] = 0;
         }

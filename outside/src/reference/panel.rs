@@ -23,8 +23,10 @@ impl Panel {
     pub fn new(image: &[u8], query: Query) -> Self {
         let stations = Image::open(image).map(|map| map.stations).map_err(|answer| answer.refusal);
         let n = stations.unwrap_or(0);
-        let (mut times, mut preds, mut marks, mut list) = (vec![0; n], vec![0; n], vec![0; n], vec![0; n]);
-        let own = Tables { times: &mut times, preds: &mut preds, marks: &mut marks, list: &mut list };
+        let (mut times, mut moves, mut preds) = (vec![0; n], vec![0; n], vec![0; n]);
+        let (mut marks, mut list) = (vec![0; n], vec![0; n]);
+        let own =
+            Tables { times: &mut times, moves: &mut moves, preds: &mut preds, marks: &mut marks, list: &mut list };
         let Answer { refusal, .. } = letter::search(Search::Df, image, query, own);
         Panel { stations, times: if refusal == 0 { Ok(times) } else { Err(refusal) } }
     }

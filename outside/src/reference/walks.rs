@@ -1,9 +1,10 @@
 //! What a search has to give, by a method that has no steps in common with it: Bellman and Ford's rounds over all
-//! open moves of the good pages give the least times over "walks that leave only stations on good pages"; predecessors,
-//! refused page and Dijkstra's list are then read off the times.
+//! open moves of the good pages give the least times over "walks that leave only stations on good pages"; rounds over
+//! those of the moves that keep to least times give the fewest moves; predecessors, refused page and Dijkstra's list
+//! are then read off both. A pair of time and moves is compared only where stations are put in order.
 
 use super::image::{Fault, Image, Station};
-use super::{Query, NO_PREDECESSOR, NO_TIME, SOURCE};
+use super::{Query, NO_MOVES, NO_PREDECESSOR, NO_TIME, SOURCE};
 
 /// A move of a walk, with the station it leaves.
 #[derive(Clone, Copy)]
@@ -22,6 +23,7 @@ pub struct RefusedPage {
 
 pub struct Truth {
     pub times: Vec<u32>,
+    pub moves: Vec<u16>,
     pub preds: Vec<u16>,
     pub reached: usize,
     pub refused: Option<RefusedPage>,
@@ -45,13 +47,26 @@ pub fn legs(pages: &Pages, strip: u16) -> Vec<Leg> {
     legs
 }
 
+/// What a search has to give: "less means less time, then fewer moves".
 pub fn truth(image: &Image, pages: &Pages, query: Query) -> Truth {
-    let legs = legs(pages, query.strip);
+    truth_counting(1, image, pages, query)
+}
+
+/// The same with ways ordered by time alone, as before document 02's "Fewer lifts": no leg counts as a move.
+pub fn truth_by_time_alone(image: &Image, pages: &Pages, query: Query) -> Truth {
+    truth_counting(0, image, pages, query)
+}
+
+/// `lift` is what a leg adds to the number of moves.
+fn truth_counting(lift: u16, image: &Image, pages: &Pages, query: Query) -> Truth {
+    let mut legs = legs(pages, query.strip);
     let times = least_times(image.stations, &legs, query.source);
+    legs.retain(|leg| leg.keeps_to(&times));
+    let moves = fewest_moves(lift, image.stations, &legs, query.source);
     let mut order: Vec<usize> = (0..image.stations).filter(|&station| times[station].is_some()).collect();
-    order.sort_by_key(|&station| (times[station], station));
+    order.sort_by_key(|&station| (times[station], moves[station], station));
     let first_bad = order.iter().position(|&station| pages[image.page_of(station)].is_err());
-    // Both searches settle by (least time, number), and the first station on a bad page is the last they refer for.
+    // Both searches settle in this order, and the first station on a bad page is the last they refer for.
     let settled = &order[..first_bad.map_or(order.len(), |at| at + 1)];
     let plain_list = settled.iter().map(|&station| image.directory[station]).collect();
     let refused = first_bad.and_then(|at| {
@@ -59,13 +74,15 @@ pub fn truth(image: &Image, pages: &Pages, query: Query) -> Truth {
         pages[page].as_ref().err().map(|&fault| RefusedPage { page, fault })
     });
     if refused.is_some() {
-        let (times, preds) = (vec![NO_TIME; image.stations], vec![NO_PREDECESSOR; image.stations]);
-        return Truth { times, preds, reached: 0, refused, plain_list };
+        let (times, moves) = (vec![NO_TIME; image.stations], vec![NO_MOVES; image.stations]);
+        let preds = vec![NO_PREDECESSOR; image.stations];
+        return Truth { times, moves, preds, reached: 0, refused, plain_list };
     }
-    let preds = lowest_predecessors(&times, &legs, query.source);
+    let preds = lowest_predecessors(lift, &moves, &legs, query.source);
     let reached = order.len();
     let times = times.iter().map(|time| time.map_or(NO_TIME, |time| time as u32)).collect();
-    Truth { times, preds, reached, refused, plain_list }
+    let moves = moves.iter().map(|moves| moves.unwrap_or(NO_MOVES)).collect();
+    Truth { times, moves, preds, reached, refused, plain_list }
 }
 
 /// Rounds over all moves until none lowers a time.
@@ -89,13 +106,41 @@ fn least_times(stations: usize, legs: &[Leg], source: u16) -> Vec<Option<u64>> {
     }
 }
 
-/// "Otherwise the lowest station whose time plus move gives v's time."
-fn lowest_predecessors(times: &[Option<u64>], legs: &[Leg], source: u16) -> Vec<u16> {
-    let mut preds = vec![NO_PREDECESSOR; times.len()];
+impl Leg {
+    /// Whether "time plus move gives v's time".
+    fn keeps_to(self, times: &[Option<u64>]) -> bool {
+        let sum = times[usize::from(self.from)].map(|time| time + u64::from(self.time));
+        sum.is_some() && sum == times[usize::from(self.target)]
+    }
+}
+
+/// Rounds over the legs that keep to least times, of which every walk of a least time consists: what a round comes to
+/// first is a move farther than what the round before came to.
+fn fewest_moves(lift: u16, stations: usize, legs: &[Leg], source: u16) -> Vec<Option<u16>> {
+    let mut moves = vec![None; stations];
+    let mut round = 0;
+    moves[usize::from(source)] = Some(round);
+    loop {
+        let mut further = false;
+        for leg in legs {
+            if moves[usize::from(leg.from)] == Some(round) && moves[usize::from(leg.target)].is_none() {
+                moves[usize::from(leg.target)] = Some(round + lift);
+                further = true;
+            }
+        }
+        if !further {
+            return moves;
+        }
+        round += lift;
+    }
+}
+
+/// "The predecessor is the lowest station that gives both numbers": the time, as all these legs do, and the moves.
+fn lowest_predecessors(lift: u16, moves: &[Option<u16>], legs: &[Leg], source: u16) -> Vec<u16> {
+    let mut preds = vec![NO_PREDECESSOR; moves.len()];
     for leg in legs {
-        let sum = times[usize::from(leg.from)].map(|time| time + u64::from(leg.time));
         let target = usize::from(leg.target);
-        if sum.is_some() && sum == times[target] {
+        if moves[usize::from(leg.from)].map(|moves| moves + lift) == moves[target] {
             preds[target] = preds[target].min(leg.from);
         }
     }

@@ -18,6 +18,11 @@ count-le p zero = omega arith
 count-le p (suc n) = omega (arith, one-le (p n), count-le p n)
 
 module _ (p q : ℕ → Bool) where
+  pub count-same : (n : ℕ) → ((k : ℕ) → k < n → p k ≡ q k) → count p n ≡ count q n
+  unfolding count
+  count-same zero e = refl
+  count-same (suc n) e = rw (e n (omega arith), count-same n (λ k l. e k (omega arith)))
+
   pub count-mono : (n : ℕ) → ((k : ℕ) → k < n → p k ≡ true → q k ≡ true) → count p n ≤ count q n
   unfolding count
   count-mono zero h = omega arith

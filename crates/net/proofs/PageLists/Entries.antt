@@ -5,6 +5,7 @@ use Rattle.common.proofs.Ground.{_≡_, refl, sym, _∙_, ap, Bool, true, false
 use Rattle.common.proofs.Ground.{dite, List, [], _∷_, _++_, List·Memᴰ, List·Memᴰ·head, Memᴰ·append-left}
 use Rattle.common.proofs.Ground.{Memᴰ·append-right, ℕ, _+_, _<_, arith, ℕ-discrete, ltb}
 use Rattle.net.specs.declared.Choice.the-variants.{Nobody}
+use Rattle.common.specs.Costs.{cost}
 use Rattle.net.specs.Net.{Move, Page, good, bad, Frame, Goes}
 use Rattle.net.specs.Search.{State, going, costOf, isFresh, settle, withPage, markFresh, start, onPage, readFor}
 use Rattle.net.specs.Search.{relax, relaxAll, visit, workThrough, dfVisit}
@@ -21,11 +22,11 @@ use Rattle.net.proofs.Steps.Visits.{ready-u, visited-u}
 use Rattle.net.proofs.Searches.Start.{start-timed}
 
 module _ (F : Frame) where
-  -- why x is stale once moves of u have been relaxed: it was before, at the same time, or one of the moves leads
+  -- why x is stale once moves of u have been relaxed: it was before, at the same cost, or one of the moves leads
   -- there
   abbrev Why : List Move → State → State → ℕ → Type 0
   Why moves s t x = ((isFresh s x ≡ false) × (costOf F t x ≡ costOf F s x)) ⊎
-      ((w : ℕ) × List·Memᴰ (record { target = x; weight = w }) moves)
+      ((w : ℕ) × List·Memᴰ (record { target = x; time = w }) moves)
 
   why-same : (moves : List Move) (s r t : State) (x : ℕ) → Same F r t x → Why moves s r x → Why moves s t x
   why-same moves s r t x e (inl k) = inl (k .0, e .time ∙ k .1)
@@ -38,7 +39,7 @@ module _ (F : Frame) where
       → AllWhy moves s r
       → Kind F u (m .target) sum r t → isFresh t (m .target) ≡ false → Why moves s t (m .target)
   unfolding AllWhy
-  kind-why moves s u m sum r t k p (lowered lt a b c) f = inr (m .weight, k)
+  kind-why moves s u m sum r t k p (lowered lt a b c) f = inr (m .time, k)
   kind-why moves s u m sum r t k p (tied e lt a b c) f = ⊎-elim (λ j. inl (j .0, a ∙ j .1)) inr
       (p (m .target) (sym c ∙ f))
   kind-why moves s u m sum r t k p (kept le lo e) f = why-same moves s r t (m .target) e
@@ -53,18 +54,19 @@ module _ (F : Frame) where
       one : (m : Move) (r : State) → List·Memᴰ m moves → Spread F u s r → AllWhy moves s r
           → AllWhy moves s (relax F ltb u m r)
       one m r k p q x f =
-          let v = relax-relaxed F u m r (p .tables) (fits m k .1) in
+          let v = relax-relaxed F u m r (p .tables) (fits m k) in
           dite (ℕ-discrete x (m .target))
-          (λ e. rw e (kind-why moves s u m (costOf F r u + m .weight) r (relax F ltb u m r) k q (v .kind) (rw e at f)))
+          (λ e. rw e (kind-why moves s u m (costOf F r u + cost (m .time) 1) r (relax F ltb u m r) k q (v .kind)
+          (rw e at f)))
           (λ ne. why-same moves s r (relax F ltb u m r) x (v .others x ne) (q x (sym (v .others x ne .fresh) ∙ f)))
 
 module _ (F : Frame) (page : ℕ → Page) (source : ℕ) where
   -- a move from another page of the list leads to x
   pub record From (list : List ℕ) (x : ℕ) : Type 0 where
     pub station : ℕ
-    pub weight : ℕ
+    pub time : ℕ
     pub small : station < F .size
-    pub goes : Goes F page station x weight
+    pub goes : Goes F page station x time
     pub apart : F .pageOf station ≢ F .pageOf x
     pub listed : List·Memᴰ (F .pageOf station) list
 
@@ -76,7 +78,7 @@ module _ (F : Frame) (page : ℕ → Page) (source : ℕ) where
   enters-more list p x (inl e) = inl e
   enters-more list p x (inr k) = inr (record {
     station = k .station;
-    weight = k .weight;
+    time = k .time;
     small = k .small;
     goes = k .goes;
     apart = k .apart;
@@ -102,7 +104,7 @@ module _ {F : Frame} {page : ℕ → Page} {source : ℕ} (ok : Sound F page sou
         (relaxAll-why F y (moves y) (markFresh y r) (goes-fits ok y (moves y) goes)
         (markFresh-tables F y r (ready .tables)) x f)
       where
-        goes : (m : Move) → List·Memᴰ m (moves y) → Goes F page y (m .target) (m .weight)
+        goes : (m : Move) → List·Memᴰ m (moves y) → Goes F page y (m .target) (m .time)
         goes m k = rw (on, is) k
 
         old : (isFresh (markFresh y r) x ≡ false)
@@ -114,14 +116,14 @@ module _ {F : Frame} {page : ℕ → Page} {source : ℕ} (ok : Sound F page sou
             (λ e. absurd (true≢false (sym (markFresh-own r y (omega arith)) ∙ rw e at (k .0))))
             (λ ne. before x (sym (markFresh-other r y (omega arith) x ne) ∙ k .0) (rw (k .1) at h))
 
-        new : (w : ℕ) × List·Memᴰ (record { target = x; weight = w }) (moves y)
+        new : (w : ℕ) × List·Memᴰ (record { target = x; time = w }) (moves y)
             → (F .pageOf x ≡ p) ⊎ Enters F page source l x
         new k = dite (ℕ-discrete (F .pageOf x) p) inl
             (λ ne. inr (inr (record {
               station = y;
-              weight = k .0;
+              time = k .0;
               small = small;
-              goes = goes (record { target = x; weight = k .0 }) (k .1);
+              goes = goes (record { target = x; time = k .0 }) (k .1);
               apart = λ e. ne (sym e ∙ on);
               listed = rw on there;
             })))

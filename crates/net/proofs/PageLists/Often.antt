@@ -21,7 +21,7 @@ use Rattle.net.proofs.Searches.Together.{dfStep}
 use Rattle.net.proofs.PageLists.Entries.{From, Enters, Entered, start-entered, df-entered}
 
 -- whatever move is offered is counted
-moves-count : (v w : ℕ) (moves : List Move) → List·Memᴰ (record { target = v; weight = w }) moves → 0 < movesTo v moves
+moves-count : (v w : ℕ) (moves : List Move) → List·Memᴰ (record { target = v; time = w }) moves → 0 < movesTo v moves
 unfolding movesTo
 moves-count v w (m ∷ moves) (List·Memᴰ·head e) = rw (eq-eqb v (m .target) (ap (λ n. n .target) e)) (omega arith)
 moves-count v w (m ∷ moves) (List·Memᴰ·tail k) = omega (arith, moves-count v w moves k)
@@ -35,7 +35,7 @@ module _ (F : Frame) (page : ℕ → Page) (source : ℕ) where
       let listed = lt-ltb 0 (timesIn (F .pageOf u) list) (listed-counts (F .pageOf u) list (k .listed)) in
       let apart = not-of-false (eqb (F .pageOf u) (F .pageOf v)) (ne-eqb (F .pageOf u) (F .pageOf v) (k .apart)) in
       let leads = lt-ltb 0 (movesTo v (movesOf (page (F .pageOf u)) u))
-      (moves-count v (k .weight) (movesOf (page (F .pageOf u)) u) (k .goes)) in
+      (moves-count v (k .time) (movesOf (page (F .pageOf u)) u) (k .goes)) in
       and-true (ltb 0 (timesIn (F .pageOf u) list))
       (not (eqb (F .pageOf u) (F .pageOf v)) && ltb 0 (movesTo v (movesOf (page (F .pageOf u)) u))) listed
       (and-true (not (eqb (F .pageOf u) (F .pageOf v)))

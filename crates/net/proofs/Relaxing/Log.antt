@@ -5,6 +5,7 @@ use Rattle.common.proofs.Ground.{_≡_, refl, _∙_, ap, Bool, true, false, _&&
 use Rattle.common.specs.Pick.{pick}
 use Rattle.net.specs.declared.Choice.{Choice}
 use Rattle.net.specs.declared.Choice.the-variants.{Station, Nobody}
+use Rattle.common.specs.Costs.{cost}
 use Rattle.net.specs.Net.{Move, Page, good, bad, Frame}
 use Rattle.net.specs.Search.{State, Halt, refused, isFresh, withPage, settle, markFresh, predOf, costOf}
 use Rattle.net.specs.Search.{onChoice, onPage, readFor, relaxTo, relax, relaxAll, visit, chooseOn, workTurn}
@@ -40,7 +41,7 @@ module _ (F : Frame) (less : ℕ → ℕ → Bool) where
   unfolding relaxAll relax
   relaxAll-log u [] s = refl
   relaxAll-log u (m ∷ moves) s = relaxAll-log u moves (relax F less u m s) ∙ relaxTo-log u (m .target)
-      (costOf F s u + m .weight) s
+      (costOf F s u + cost (m .time) 1) s
 
   pub visit-log : (moves : ℕ → List Move) (u : ℕ) (s : State) → logOf (visit F less moves u s) ≡ logOf s
   unfolding visit

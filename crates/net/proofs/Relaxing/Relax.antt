@@ -1,18 +1,19 @@
 -- One relaxed move seen from outside: its target is lowered, or tied, or kept, and no other station's entries
--- change. Then all moves of one station u together: times only fall, never to u's own time or below it; whoever is
--- no later than u keeps its entries; and whoever is still fresh has kept its time.
+-- change. Then all moves of one station u together: costs only fall, never to u's own cost or below it; whoever is
+-- no later than u keeps its entries; and whoever is still fresh has kept its cost.
 use Rattle.common.proofs.Ground.{_≡_, refl, sym, _∙_, Bool, true, false, true≢false, _≢_, ⊎-elim, dite, List, [], _∷_}
 use Rattle.common.proofs.Ground.{_++_, List·Memᴰ, List·Memᴰ·head, List·Memᴰ·tail, List·Memᴰ·cases-cons}
 use Rattle.common.proofs.Ground.{List·Memᴰ·not-nil, ℕ, _+_, _%_, _≤_, _<_, arith, ℕ-discrete, length, getD, set}
 use Rattle.common.proofs.Ground.{length-set, getD-set-same, getD-set-other, ltb, lt-ltb, le-ltb, eq-eqb, ne-eqb}
 use Rattle.common.proofs.Ground.{lt-leb}
 use Rattle.common.proofs.Cases.{le-or-lt}
+use Rattle.common.specs.Costs.{cost}
 use Rattle.net.specs.Net.{Frame, Move}
 use Rattle.net.specs.Search.{State, withTables, costOf, predOf, markOf, isFresh, isSettled, relaxTo, relax}
 use Rattle.net.specs.Search.{relaxAll}
 use Rattle.net.proofs.Basics.Marks.{set-all, marks-settled-alike}
 
--- The tables: an entry for each station, marks below 4, and no time above none.
+-- The tables: an entry for each station, marks below 4, and no cost above none.
 pub record TablesOf (F : Frame) (ts ps ms : List ℕ) : Type 0 where
   pub costs : length ts ≡ F .size
   pub preds : length ps ≡ F .size
@@ -135,9 +136,9 @@ module _ (F : Frame) where
         (le-or-lt (costOf F s v) sum)
 
   pub relax-relaxed : (u : ℕ) (m : Move) (s : State) → Tables F s → m .target < F .size
-      → Relaxed F u (m .target) (costOf F s u + m .weight) s (relax F ltb u m s)
+      → Relaxed F u (m .target) (costOf F s u + cost (m .time) 1) s (relax F ltb u m s)
   unfolding relax
-  relax-relaxed u m s z small = relaxTo-relaxed u (m .target) (costOf F s u + m .weight) s z
+  relax-relaxed u m s z small = relaxTo-relaxed u (m .target) (costOf F s u + cost (m .time) 1) s z
       (omega (arith, z .costs)) (omega (arith, z .preds)) (omega (arith, z .marks))
 
 -- What relaxing moves of u does to the entries of x.
@@ -155,7 +156,7 @@ pub record Spread (F : Frame) (u : ℕ) (s t : State) : Type 0 where
 
 -- The move has been met: v is no later than by it, and where it is as late its predecessor is no higher than u.
 abbrev pub Met : (ℕ → ℕ) → (ℕ → ℕ) → ℕ → ℕ → ℕ → Type 0
-Met time pred u v sum = (time v ≤ sum) × (time v ≡ sum → pred v ≤ u)
+Met held pred u v sum = (held v ≤ sum) × (held v ≡ sum → pred v ≤ u)
 
 module _ (F : Frame) where
   same-entry : (u x : ℕ) (s t : State) → Same F s t x → Entry F u s t x
@@ -214,14 +215,14 @@ module _ (F : Frame) where
     tables = r .tables;
   }
 
-  -- a move that relaxing can meet: it weighs something and leads to a station
+  -- a move that relaxing can meet: it leads to a station
   abbrev pub Fits : Move → Type 0
-  Fits m = (0 < m .weight) × (m .target < F .size)
+  Fits m = m .target < F .size
 
   pub relax-spread : (u : ℕ) (m : Move) (s : State) → Fits m → Tables F s → Spread F u s (relax F ltb u m s)
   relax-spread u m s fits z =
-      spread-one u (m .target) (costOf F s u + m .weight) s (relax F ltb u m s) (omega arith)
-      (relax-relaxed F u m s z (fits .1))
+      spread-one u (m .target) (costOf F s u + cost (m .time) 1) s (relax F ltb u m s) (omega arith)
+      (relax-relaxed F u m s z fits)
 
   -- the move that is relaxed last
   pub relaxAll-last : (less : ℕ → ℕ → Bool) (u : ℕ) (moves : List Move) (m : Move) (s : State)
@@ -262,7 +263,7 @@ module _ (F : Frame) where
   pub relaxAll-met : (u : ℕ) (moves : List Move) (s : State) → ((m : Move) → List·Memᴰ m moves → Fits m) → Tables F s
       → (m : Move) → List·Memᴰ m moves
       → Met (costOf F (relaxAll F ltb u moves s)) (predOf (relaxAll F ltb u moves s)) u (m .target)
-      (costOf F s u + m .weight)
+      (costOf F s u + cost (m .time) 1)
   unfolding relaxAll
   relaxAll-met u [] s fits z m k = absurd (List·Memᴰ·not-nil k)
   relaxAll-met u (n ∷ moves) s fits z m k =
@@ -271,8 +272,8 @@ module _ (F : Frame) where
       let t : State = relax F ltb u n s in
       let p : Spread F u s t = relax-spread u n s here z in
       ⊎-elim
-      (λ e. rw e (met-on u u (n .target) (costOf F s u + n .weight) t (relaxAll F ltb u moves t)
+      (λ e. rw e (met-on u u (n .target) (costOf F s u + cost (n .time) 1) t (relaxAll F ltb u moves t)
       (relaxAll-spread u moves t later (p .tables) .entry (n .target))
-      (kind-met u (n .target) (costOf F s u + n .weight) s t (relax-relaxed F u n s z (here .1) .kind))))
+      (kind-met u (n .target) (costOf F s u + cost (n .time) 1) s t (relax-relaxed F u n s z here .kind))))
       (λ j. rw (p .entry u .low (omega arith) .time) at (relaxAll-met u moves t later (p .tables) m j))
       (List·Memᴰ·cases-cons k)

@@ -5,6 +5,7 @@ use Rattle.common.proofs.Ground.{_≡_, refl, sym, _∙_, ap, Bool, true, false
 use Rattle.common.proofs.Ground.{List·Memᴰ·head, List·Memᴰ·tail, ℕ, _+_, _<_, arith, ltb, ltb-false, lt-ltb}
 use Rattle.net.specs.declared.Choice.{Choice}
 use Rattle.net.specs.declared.Choice.the-variants.{Station, Nobody}
+use Rattle.common.specs.Costs.{cost}
 use Rattle.net.specs.Net.{Move, Page, good, bad, Frame, Goes}
 use Rattle.net.specs.Search.{State, costOf, predOf, isFresh, isSettled, settle, withPage, markFresh, start}
 use Rattle.net.specs.Search.{onChoice, iter, onPage, readFor, relax, relaxAll, visit, chooseOn, workTurn}
@@ -20,21 +21,21 @@ use Rattle.net.proofs.Steps.PageLoop.{Ready, visited, turn-cases, markF
 use Rattle.net.proofs.Steps.Visits.{Settling, ready-u, visited-u}
 use Rattle.net.proofs.Searches.Run.{Reached, step-cases, step-reached}
 
-pub none-or-less-is-less : (F : Frame) (sum time : ℕ) → sum < F .none → noneOrLess F sum time ≡ ltb sum time
-none-or-less-is-less F sum time h = by-test (ltb time (F .none)) refl
+pub none-or-less-is-less : (F : Frame) (sum old : ℕ) → sum < F .none → noneOrLess F sum old ≡ ltb sum old
+none-or-less-is-less F sum old h = by-test (ltb old (F .none)) refl
   where
-    by-test : (b : Bool) → ltb time (F .none) ≡ b → (not b || ltb sum time) ≡ ltb sum time
+    by-test : (b : Bool) → ltb old (F .none) ≡ b → (not b || ltb sum old) ≡ ltb sum old
     by-test true e = refl
-    by-test false e = sym (lt-ltb sum time (omega (arith, ltb-false time (F .none) e)))
+    by-test false e = sym (lt-ltb sum old (omega (arith, ltb-false old (F .none) e)))
 
 module _ (F : Frame) where
-  relax-one : (u : ℕ) (m : Move) (s : State) → costOf F s u + m .weight < F .none
+  relax-one : (u : ℕ) (m : Move) (s : State) → costOf F s u + cost (m .time) 1 < F .none
       → relax F (noneOrLess F) u m s ≡ relax F ltb u m s
   unfolding relax
-  relax-one u m s h = rw (none-or-less-is-less F (costOf F s u + m .weight) (costOf F s (m .target)) h)
+  relax-one u m s h = rw (none-or-less-is-less F (costOf F s u + cost (m .time) 1) (costOf F s (m .target)) h)
 
   relaxAll-one : (u : ℕ) (moves : List Move) (s : State) → Tables F s → ((m : Move) → List·Memᴰ m moves → Fits F m)
-      → ((m : Move) → List·Memᴰ m moves → costOf F s u + m .weight < F .none)
+      → ((m : Move) → List·Memᴰ m moves → costOf F s u + cost (m .time) 1 < F .none)
       → relaxAll F (noneOrLess F) u moves s ≡ relaxAll F ltb u moves s
   unfolding relaxAll
   relaxAll-one u [] s z fits room = refl
@@ -51,9 +52,9 @@ module _ {F : Frame} {page : ℕ → Page} {source : ℕ} (ok : Sound F page sou
         → Rooted ok (costOf F s) (predOf s)
         → relaxAll F (noneOrLess F) u (moves u) s ≡ relaxAll F ltb u (moves u) s
     moves-one u s on z h r = relaxAll-one F u (moves u) s z (goes-fits ok u (moves u) goes)
-        (λ m k. sum-below-none ok (costOf F s) (predOf s) r u (m .target) (m .weight) h (goes m k))
+        (λ m k. sum-below-none ok (costOf F s) (predOf s) r u (m .target) (m .time) h (goes m k))
       where
-        goes : (m : Move) → List·Memᴰ m (moves u) → Goes F page u (m .target) (m .weight)
+        goes : (m : Move) → List·Memᴰ m (moves u) → Goes F page u (m .target) (m .time)
         goes m k = rw (on, is) k
 
     pub visit-one : (u : ℕ) (s : State) → Ready ok s → F .pageOf u ≡ p → costOf F s u < F .none

@@ -7,8 +7,8 @@ use Rattle.net.specs.declared.Choice.the-variants.{Station, Nobody}
 use Rattle.net.specs.Net.{Page, good, bad, Frame, isGood, count}
 use Rattle.net.specs.Search.{State, Halt, going, refused, costOf, isSettled, settle, start, choose}
 use Rattle.net.specs.Search.{iter, stepBy}
-use Rattle.net.specs.Demands.{RefusedPage}
 use Rattle.net.proofs.Sound.{Sound}
+use Rattle.net.proofs.LeastCosts.{FirstBad}
 use Rattle.net.proofs.Basics.Iterate.{iter-keeps, iter-counts}
 use Rattle.net.proofs.Basics.Count.{count-le, count-more, count-full}
 use Rattle.net.proofs.Basics.Lists.{length-one-more}
@@ -30,7 +30,7 @@ module _ {F : Frame} {page : ℕ → Page} {source : ℕ} (ok : Sound F page sou
   -- what a state says that a bad page ended
   abbrev pub Told : State → Type 0
   Told s = (number p offset : ℕ) → s .halt ≡ refused number p offset
-      → RefusedPage F page source number p offset × ((before : List ℕ) × (s .pages ≡ before ++ (p ∷ [])))
+      → FirstBad F page source number p offset × ((before : List ℕ) × (s .pages ≡ before ++ (p ∷ [])))
 
   going-told : (s : State) → s .halt ≡ going → Told s
   going-told s g number p offset e = absurd (let z : _≡_ {A = ℕ} 0 1 = cc in omega arith)
@@ -76,7 +76,7 @@ module _ {F : Frame} {page : ℕ → Page} {source : ℕ} (ok : Sound F page sou
           let eo : offset ≡ offset′ = cc in (
             record {
               station = u;
-              cost = costOf F s u;
+              held = costOf F s u;
               walk = i .labels .rooted .root u (n .timed) .walk;
               on = ep;
               why = rw (← ep, ← en, ← eo) e;

@@ -5,7 +5,7 @@ use Rattle.common.proofs.Ground.{length, set, replicate, length-set, length-rep
 use Rattle.common.specs.Numbers.{sourceMark, noPred}
 use Rattle.net.specs.Net.{Page, Frame, here}
 use Rattle.net.specs.Search.{State, markOf, costOf, predOf, isFresh, isSettled, start}
-use Rattle.net.proofs.Sound.{Sound}
+use Rattle.net.proofs.Sound.{Sound, below-none}
 use Rattle.net.proofs.Basics.Marks.{getD-replicate-same}
 use Rattle.net.proofs.Relaxing.Relax.{Tables}
 use Rattle.net.proofs.Relaxing.Labels.{Rooted, timed-inside}
@@ -67,11 +67,15 @@ module _ {F : Frame} {page : ℕ → Page} {source : ℕ} (ok : Sound F page sou
   pub start-rooted : Rooted ok (costOf F (start F source)) (predOf (start F source))
   start-rooted = record {
     inside = timed-inside F (start F source) start-tables;
-    source-time = start-time;
+    source-cost = start-time;
     source-pred = start-pred;
-    root = λ x h. let e = start-timed x h in rw e (record { walk = rw start-time here; from = λ ne. absurd (ne refl) });
+    root = λ x h. let e = start-timed x h in rw e (record {
+      walk = record { time = 0; moves = 0; walk = here; is = start-time };
+      few = omega arith;
+      from = λ ne. absurd (ne refl);
+    });
     near = λ x h. let e = start-timed x h in rw e (omega (arith, start-time));
-    none = λ x h. start-other-pred x (λ e. let z = rw e at h in omega (arith, start-time, ok .room));
+    none = λ x h. start-other-pred x (λ e. let z = rw e at h in omega (arith, start-time, below-none ok));
   }
 
   pub start-inv : (relaxed : State → ℕ → Bool) → ((x : ℕ) → relaxed (start F source) x ≡ false)

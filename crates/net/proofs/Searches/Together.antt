@@ -8,6 +8,7 @@ use Rattle.net.specs.Net.{Page, Frame}
 use Rattle.net.specs.Search.{State, Halt, going, refused, costOf, isSettled, isFresh, settle, start, choose, iter}
 use Rattle.net.specs.Search.{plainVisit, dfVisit, stepBy}
 use Rattle.net.proofs.Sound.{Sound}
+use Rattle.net.proofs.LeastCosts.{LeastCost}
 use Rattle.net.proofs.Basics.Tests.{below-or-last}
 use Rattle.net.proofs.Basics.Iterate.{iter-keeps, iter-keeps-both, iter-last, iter-add}
 use Rattle.net.proofs.Basics.Lists.{part-left-out, part-kept}
@@ -16,7 +17,7 @@ use Rattle.net.proofs.Relaxing.Log.{haltAfter, plain-lists}
 use Rattle.net.proofs.Steps.Choose.{Next, choose-next, choose-refused}
 use Rattle.net.proofs.Steps.Invariant.{settled-own, settled-still}
 use Rattle.net.proofs.Steps.Visits.{Settles, Settling, plain-settling, df-settling}
-use Rattle.net.proofs.Searches.Walks.{LeastCost, least-cost-one, next-least, settled-least, same-next}
+use Rattle.net.proofs.Searches.Walks.{least-cost-one, next-least, settled-least, same-next}
 use Rattle.net.proofs.Searches.Start.{start-unsettled, start-stale}
 use Rattle.net.proofs.Searches.Run.{Reached, reached-start, chosen-next, step-cases, step-reached, run-reached}
 

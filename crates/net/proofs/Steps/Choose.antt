@@ -1,4 +1,4 @@
--- Whom a search chooses to settle, and whom the page loop chooses to relax, said with times and flags in place of
+-- Whom a search chooses to settle, and whom the page loop chooses to relax, said with costs and flags in place of
 -- tests. Both from what `least` finds; stations without a time need not be told apart from numbers past the tables.
 use Rattle.common.proofs.Ground.{_≡_, sym, _∙_, ap, Bool, true, false, not, true≢false, _≢_, ⊎-elim, dite, List, ℕ}
 use Rattle.common.proofs.Ground.{_≤_, _<_, arith, ℕ-discrete, lt-ltb, le-ltb, eq-eqb, ne-eqb}

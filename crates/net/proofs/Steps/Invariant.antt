@@ -1,6 +1,6 @@
--- What holds between the steps of either search. The stations whose moves have been relaxed at their present times
+-- What holds between the steps of either search. The stations whose moves have been relaxed at their present costs
 -- are the fresh ones in the DF search and the settled ones in the plain search: the invariant is over either. It
--- survives because all that a step does happens at the settled station's time or later, so what is no later stays.
+-- survives because all that a step does happens at the settled station's cost or later, so what is no later stays.
 use Rattle.common.proofs.Ground.{_≡_, refl, sym, _∙_, Bool, true, false, _⊎_, inl, inr, ⊎-elim, dite, ℕ, _+_, _*_, _/_}
 use Rattle.common.proofs.Ground.{_≤_, _<_, arith, ℕ-discrete, length-set}
 use Rattle.common.proofs.Cases.{le-or-lt}
@@ -84,7 +84,7 @@ module _ {F : Frame} {page : ℕ → Page} {source : ℕ} (ok : Sound F page sou
     pub done : (x : ℕ) → isSettled s x ≡ true → relaxed s x ≡ true
     pub order : Ordered F s
 
-  -- u is settled, and what else a step does happens at u's time or later
+  -- u is settled, and what else a step does happens at u's cost or later
   module _ (s : State) (i : Inv s) (u : ℕ) (n : Next F s u) (t : State)
       (settled : (x : ℕ) → isSettled t x ≡ isSettled (settle u s) x) (above : (x : ℕ)
       → Above F (costOf F s u) s t x) where

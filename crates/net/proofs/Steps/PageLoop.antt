@@ -202,7 +202,7 @@ module _ {F : Frame} {page : ℕ → Page} {source : ℕ} (ok : Sound F page sou
       done-more : count (doneBy T r) (F .size) < count (doneBy now next) (F .size)
       done-more = count-more (doneBy T r) (doneBy now next) (F .size) done-still x (m .small) not-done done-now
 
-    -- after k turns: k of the page's stations are done by some time and no stale one is before it, or nobody is left
+    -- after k turns: k of the page's stations are done by some cost and no stale one is before it, or nobody is left
     record Turned (k : ℕ) (r : State) : Type 0 where
       ready : Ready r
       stage : ((T : ℕ) × FloorOn T r × (k ≤ count (doneBy T r) (F .size))) ⊎ (chooseOn F p r ≡ Nobody)

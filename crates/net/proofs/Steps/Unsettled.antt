@@ -6,6 +6,7 @@ use Rattle.common.proofs.Ground.{_*_, _/_, _%_, arith, getD, set, replicate, lt
 use Rattle.common.specs.Pick.{pick}
 use Rattle.net.specs.declared.Choice.{Choice}
 use Rattle.net.specs.declared.Choice.the-variants.{Station, Nobody}
+use Rattle.common.specs.Costs.{cost}
 use Rattle.net.specs.Net.{Move, Frame}
 use Rattle.net.specs.Search.{State, Halt, going, refused, withTables, settle, markFresh, costOf, predOf}
 use Rattle.net.specs.Search.{markOf, isFresh, start, onChoice, iter, relaxTo, relax, relaxAll, visit, chooseOn}
@@ -91,7 +92,7 @@ module _ (F : Frame) where
   unfolding relaxAll relax
   unsettle-relaxAll u [] s = refl
   unsettle-relaxAll u (m ∷ moves) s = unsettle-relaxAll u moves (relax F ltb u m s)
-      ∙ ap (relaxAll F ltb u moves) (unsettle-relaxTo u (m .target) (costOf F s u + m .weight) s)
+      ∙ ap (relaxAll F ltb u moves) (unsettle-relaxTo u (m .target) (costOf F s u + cost (m .time) 1) s)
 
   module _ (moves : ℕ → List Move) where
     pub unsettle-visit : (u : ℕ) (s : State) → unsettle (visit F ltb moves u s) ≡ visit F ltb moves u (unsettle s)

@@ -1,4 +1,4 @@
--- Who waits in a state (specs/Run), and who is first of all that do, of a whole map and of a page: said with times and
+-- Who waits in a state (specs/Run), and who is first of all that do, of a whole map and of a page: said with costs and
 -- flags in place of tests, and the first of all by the firsts of the pages. For either search, from what `least` finds.
 use Rattle.common.proofs.Ground.{_≡_, refl, sym, _∙_, ap, Bool, true, false, not, _&&_, List, ℕ, _<_, arith, eqb}
 use Rattle.common.proofs.Ground.{ltb-true, lt-ltb, eqb-true, eq-eqb, not-true}

@@ -4,6 +4,7 @@
 use Rattle.common.proofs.Ground.{_≡_, refl, sym, _∙_, Bool, true, false, not, _&&_, _||_, true≢false, _≢_, ⊎-elim}
 use Rattle.common.proofs.Ground.{dite, List, List·Memᴰ, ℕ, _+_, _≤_, _<_, arith, ℕ-discrete, length, ltb, eqb, lt-ltb}
 use Rattle.common.proofs.Ground.{le-ltb, eq-eqb, ne-eqb}
+use Rattle.common.specs.Costs.{cost}
 use Rattle.net.specs.Net.{Move, Page, Frame, Goes}
 use Rattle.net.specs.Search.{State, costOf, predOf, isSettled, isFresh, relax, relaxAll}
 use Rattle.net.specs.Run.{isDone, stopWaiting, waits}
@@ -64,8 +65,8 @@ module _ {F : Frame} {page : ℕ → Page} {source : ℕ} (ok : Sound F page sou
       }
 
   module _ (df : Bool) (x : ℕ) (r : State) (h : Visiting df x r) where
-    -- after more moves of x, whose own time stays
-    module _ (moves : List Move) (goes : (m : Move) → List·Memᴰ m moves → Goes F page x (m .target) (m .weight)) where
+    -- after more moves of x, whose own cost stays
+    module _ (moves : List Move) (goes : (m : Move) → List·Memᴰ m moves → Goes F page x (m .target) (m .time)) where
       abbrev after : State
       after = relaxAll F ltb x moves r
 
@@ -89,18 +90,18 @@ module _ {F : Frame} {page : ℕ → Page} {source : ℕ} (ok : Sound F page sou
       }
 
     -- one more move of x
-    module _ (m : Move) (goes : Goes F page x (m .target) (m .weight)) where
+    module _ (m : Move) (goes : Goes F page x (m .target) (m .time)) where
       abbrev t : State
       t = relax F ltb x m r
 
       abbrev sum : ℕ
-      sum = costOf F r x + m .weight
+      sum = costOf F r x + cost (m .time) 1
 
       pub visiting-sum : sum < F .none
-      visiting-sum = sum-below-none ok (costOf F r) (predOf r) (h .rooted) x (m .target) (m .weight) (h .timed) goes
+      visiting-sum = sum-below-none ok (costOf F r) (predOf r) (h .rooted) x (m .target) (m .time) (h .timed) goes
 
       relaxed : Relaxed F x (m .target) sum r t
-      relaxed = relax-relaxed F x m r (h .tables) (ok .moves x (m .target) (m .weight) goes .2)
+      relaxed = relax-relaxed F x m r (h .tables) (ok .moves x (m .target) (m .time) goes .1)
 
       same-done : (df : Bool) (v : ℕ) → isFresh t v ≡ isFresh r v → isDone df t v ≡ isDone df r v
       same-done true v e = e
@@ -109,7 +110,7 @@ module _ {F : Frame} {page : ℕ → Page} {source : ℕ} (ok : Sound F page sou
       same-waits : (v : ℕ) → costOf F t v ≡ costOf F r v → isFresh t v ≡ isFresh r v → waits df F t v ≡ waits df F r v
       same-waits v e f = rw (same-done df v f, e)
 
-      -- a lowered station's moves are not relaxed at its new time
+      -- a lowered station's moves are not relaxed at its new cost
       lowered-open : (d : Bool) → df ≡ d → sum < costOf F r (m .target) → isFresh t (m .target) ≡ false
           → isDone d t (m .target) ≡ false
       lowered-open true e lt f = f

@@ -28,7 +28,7 @@ module _ (read : tie.After-shared-slice-known3 Inv-loop μ-loop) where
   row-fits : getD (now (start .args .layout)) (turn .loop .i) 0 < 4294967296
   row-fits = omega (arith, read .shared-slice-known3 .given (turn .loop .i))
 
-add-sum : tie.Need-add-sum Inv-loop μ-loop
+add-sum : tie.Need-add-sum-2 Inv-loop μ-loop
 add-sum c = let (from, (cost, asked)) = start c .pre in omega (arith, row-fits c)
 
 offer-requires : tie.Need-offer-requires Inv-loop μ-loop
@@ -61,6 +61,8 @@ relax-rows-spec =
     (λ c. omega (arith, row-fits c))
     (λ c. omega (arith, row-fits c))
     (λ c. search needs)
+    (λ c. omega (arith, row-fits c))
+    (λ c. omega (arith, row-fits c))
     add-sum
     offer-requires
     (λ c. search needs)

@@ -16,8 +16,25 @@ returns-3 c =
 
 returns-4 : tie.Need-returns-4
 returns-4 c =
-    let second = c .before in
-    rw (le-ltb _ _ (second .before .if1 .left), le-ltb _ _ (second .if2 .left), le-ltb _ _ (c .if3 .left))
+    let third = c .before in
+    let second = third .before in
+    rw (
+      le-ltb _ _ (second .before .if1 .left),
+      le-ltb _ _ (second .if2 .left),
+      le-ltb _ _ (third .if3 .left),
+      lt-ltb _ _ (c .if4 .taken),
+    )
+
+returns-5 : tie.Need-returns-5
+returns-5 c =
+    let third = c .before in
+    let second = third .before in
+    rw (
+      le-ltb _ _ (second .before .if1 .left),
+      le-ltb _ _ (second .if2 .left),
+      le-ltb _ _ (third .if3 .left),
+      le-ltb _ _ (c .if4 .left),
+    )
 
 pub too-short-spec : {M : Type 1} → statement M
-too-short-spec = tie.close (tie.spec returns returns-2 returns-3 returns-4)
+too-short-spec = tie.close (tie.spec returns returns-2 returns-3 returns-4 returns-5)

@@ -13,4 +13,4 @@ returns-3 : tie.Need-returns-3
 returns-3 c = rw (ne-eqb _ 0 (c .before .if1 .left), le-ltb _ _ (c .if2 .left))
 
 pub pred-in-spec : {M : Type 1} → statement M
-pred-in-spec = tie.close (tie.spec returns (λ c. search needs) (λ c. search needs) returns-2 returns-3)
+pred-in-spec = tie.close (tie.spec returns (λ c. search needs) returns-2 returns-3)

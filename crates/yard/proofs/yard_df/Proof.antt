@@ -7,15 +7,17 @@ use Rattle.yard.proofs.yard_df.Tie as tie
 
 tell-search-requires : tie.Need-tell-search-requires
 tell-search-requires c κs =
-    let searched = c .before .before .before .before .before .before .before .before .before in
-    let known = searched .before .before .before .before .before .before .before .before .before .before in
+    let searched = c .before .before .before .before .before .before .before .before .before .before .before in
+    let lent = searched .before .before .before .before .before .before in
+    let known = lent .before .before .before .before .before .before in
     small-numbers true _ _ (searched .df .ensures .promised .outcome)
     (λ i. omega (arith, known .shared-slice-known .given i))
 
 returns : tie.Need-returns
 returns c =
     let told = c .before .before in
-    let searched = told .before .before .before .before .before .before .before .before .before .before in
+    let lent = told .before .before .before .before .before .before in
+    let searched = lent .before .before .before .before .before .before in
     let promised = searched .df .ensures in
     search-told true _ _ (promised .promised .outcome) DfPromised promised (told .tell-search .ensures)
 
@@ -25,6 +27,7 @@ yard-df-spec =
     (tie.spec
     (λ c κs. search needs)
     tell-search-requires
+    (λ c. search needs)
     (λ c. search needs)
     (λ c. search needs)
     (λ c. search needs)

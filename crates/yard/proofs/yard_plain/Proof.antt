@@ -8,15 +8,17 @@ use Rattle.yard.proofs.yard_plain.Tie as tie
 
 tell-search-requires : tie.Need-tell-search-requires
 tell-search-requires c κs =
-    let searched = c .before .before .before .before .before .before .before .before .before in
-    let known = searched .before .before .before .before .before .before .before .before .before .before in
+    let searched = c .before .before .before .before .before .before .before .before .before .before .before in
+    let lent = searched .before .before .before .before .before .before in
+    let known = lent .before .before .before .before .before .before in
     small-numbers false _ _ (searched .plain .ensures .outcome)
     (λ i. omega (arith, known .shared-slice-known .given i))
 
 returns : tie.Need-returns
 returns c =
     let told = c .before .before in
-    let searched = told .before .before .before .before .before .before .before .before .before .before in
+    let lent = told .before .before .before .before .before .before in
+    let searched = lent .before .before .before .before .before .before in
     let promised = searched .plain .ensures in
     search-told false _ _ (promised .outcome) (Promised plainSearch) promised (told .tell-search .ensures)
 
@@ -26,6 +28,7 @@ yard-plain-spec =
     (tie.spec
     (λ c κs. search needs)
     tell-search-requires
+    (λ c. search needs)
     (λ c. search needs)
     (λ c. search needs)
     (λ c. search needs)

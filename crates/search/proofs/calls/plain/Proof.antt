@@ -6,8 +6,8 @@ use Rattle.search.proofs.calls.plain.Tie as tie
 
 returns : tie.Need-returns
 returns c =
-    let searched = c .before .before .before .before .before .before .before .before in
-    let known = searched .before .before .before .before .before .before .before .before .before in
+    let searched = c .before .before .before .before .before .before .before .before .before .before in
+    let known = searched .before .before .before .before .before .before .before .before .before .before .before in
     promised-of _ _ (λ i. omega (arith, known .shared-slice-known .given i)) false _ (searched .search .ensures)
 
 pub plain-spec : {M : Type 1} → statement M
@@ -15,6 +15,7 @@ plain-spec =
     tie.close
     (tie.spec
     (λ c κs. search needs)
+    (λ c. search needs)
     (λ c. search needs)
     (λ c. search needs)
     (λ c. search needs)

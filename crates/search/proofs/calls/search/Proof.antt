@@ -8,14 +8,14 @@ use Rattle.search.proofs.calls.search.Tie as tie
 
 on-map-requires : tie.Need-on-map-requires
 on-map-requires c κs =
-    let whole = c .before .before .before .before in
+    let whole = c .before .before .before .before .before in
     sym (whole .before .before .check-call .ensures) ∙ ap outcomeOf (whole .enum-told .given .1)
 
 returns : tie.Need-returns
 unfolding searched
 returns c =
-    let spoken = c .before .before .before .before .before .before .before .before in
-    let whole = spoken .before .before .before .before .before in
+    let spoken = c .before .before .before .before .before .before .before .before .before .before in
+    let whole = spoken .before .before .before .before .before .before in
     spoken .on-map .ensures ∙ rw (← (whole .before .before .check-call .ensures), whole .enum-told .given .1)
 
 returns-2 : tie.Need-returns-2
@@ -34,7 +34,9 @@ search-spec =
     (λ c. search needs)
     (λ c. search needs)
     (λ c. search needs)
+    (λ c. search needs)
     returns
+    (λ c. search needs)
     (λ c. search needs)
     (λ c. search needs)
     (λ c. search needs)

@@ -6,13 +6,14 @@ use Rattle.search.proofs.own.df_times.Tie as tie
 
 returns : tie.Need-returns
 returns c =
-    let is = c .before .before .before .before .before .df .ensures .promised .outcome in
+    let is = c .before .before .before .before .before .before .df .ensures .promised .outcome in
     (ap (λ (h : Handed). h .reply) is, ap (λ (h : Handed). h .tables .times) is)
 
 pub df-times-spec : {M : Type 1} → statement M
 df-times-spec =
     tie.close
     (tie.spec
+    (λ c. search needs)
     (λ c. search needs)
     (λ c. search needs)
     (λ c. search needs)
