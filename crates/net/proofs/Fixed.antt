@@ -5,8 +5,9 @@ use Rattle.common.proofs.Ground.{arith, ℕ-discrete, ext-getD}
 use Rattle.common.proofs.Cases.{le-or-lt}
 use Rattle.common.specs.Numbers.{noTime, noMoves, sourceMark, noPred}
 use Rattle.common.specs.Costs.{NoMore}
+use Rattle.common.specs.Chains.{predAt}
 use Rattle.net.specs.Net.{Page, bad, Frame, Goes, Walk, here, onward}
-use Rattle.net.specs.Demands.{timeAt, movesAt, predAt, Spells, at-source, step, LeastTimes, RefusedPage}
+use Rattle.net.specs.Demands.{timeAt, movesAt, Spells, at-source, step, LeastTimes, RefusedPage}
 
 -- Of pairs: no more than what is no more; both with one move more; and the same where neither is more.
 pub more-more : {t m u n x k : ℕ} → NoMore t m u n → NoMore u n x k → NoMore t m x k

@@ -9,17 +9,15 @@ use lib.ListN.{length, getD}
 use lib.Dec.{ltb}
 use Rattle.common.specs.Numbers.{noTime, noMoves, sourceMark, noPred}
 use Rattle.common.specs.Costs.{NoMore}
+use Rattle.common.specs.Chains.{predAt}
 use Rattle.net.specs.Net.{Page, bad, Frame, isGood, Goes, Walk, count, timesIn, entryStations, onePageReads}
 
--- What tables of times, moves and predecessors say of station v.
+-- What tables of times and moves say of station v.
 abbrev pub timeAt : List ℕ → ℕ → ℕ
 timeAt times v = getD times v noTime
 
 abbrev pub movesAt : List ℕ → ℕ → ℕ
 movesAt moves v = getD moves v noMoves
-
-abbrev pub predAt : List ℕ → ℕ → ℕ
-predAt preds v = getD preds v noPred
 
 module _ (F : Frame) (page : ℕ → Page) (source : ℕ) where
   -- The predecessors lead from v back to the source, along a walk that takes time t in m moves.

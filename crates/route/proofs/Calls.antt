@@ -3,7 +3,8 @@ use Rattle.common.proofs.Ground.{_≡_, refl, sym, _∙_, Bool, true, false, _|
 use Rattle.common.proofs.Ground.{ltb, leb, eq-eqb, ne-eqb, lt-ltb, le-ltb, le-leb, lt-leb}
 use Rattle.route.specs.declared.RouteAnswer.the-variants.{Found, NoRoute, Refused}
 use Rattle.common.specs.Numbers.{noPred}
-use Rattle.route.specs.Route.{predecessorAt, Chain, whole, broken, chain, stationsOf, writtenTo}
+use Rattle.common.specs.Chains.{predAt}
+use Rattle.route.specs.Route.{Chain, whole, broken, chain, stationsOf, writtenTo}
 use Rattle.route.specs.Route.{noRoute, refused, fitted, outcome, returned, handedBack, routeCall}
 use Rattle.route.proofs.Routes.{whole-is-route, route-some, route-is-trail}
 
@@ -26,11 +27,11 @@ module _ (preds : List ℕ) (station room : ℕ) where
         let some : length preds ≡ 0 → ⊥ = λ e. omega arith in
         simp (ne-eqb _ _ some, le-ltb _ _ few, lt-leb _ _ below)
 
-    pub outcome-none : predecessorAt preds station ≡ noPred → outcome preds station room ≡ noRoute
+    pub outcome-none : predAt preds station ≡ noPred → outcome preds station room ≡ noRoute
     unfolding outcome
     outcome-none e = simp (asked-well, eq-eqb _ _ e)
 
-    pub outcome-chain : (predecessorAt preds station ≡ noPred → ⊥) →
+    pub outcome-chain : (predAt preds station ≡ noPred → ⊥) →
         outcome preds station room ≡ fitted room (chain preds (length preds) station)
     unfolding outcome
     outcome-chain n = simp (asked-well, ne-eqb _ _ n)
@@ -45,12 +46,12 @@ module _ (preds : List ℕ) (station : ℕ) (out : List ℕ) where
   call-no-station h = rw (outcome-no-station preds station (length out) h)
 
   module _ (few : length preds ≤ 2048) (below : station < length preds) where
-    pub call-none : (before : ℕ) → before ≡ predecessorAt preds station → before ≡ noPred →
+    pub call-none : (before : ℕ) → before ≡ predAt preds station → before ≡ noPred →
         returned NoRoute out ≡ routeCall preds station out
     unfolding routeCall
     call-none before e f = rw (outcome-none preds station (length out) few below (sym e ∙ f))
 
-    module _ (before : ℕ) (e : before ≡ predecessorAt preds station) (n : before ≡ noPred → ⊥)
+    module _ (before : ℕ) (e : before ≡ predAt preds station) (n : before ≡ noPred → ⊥)
         (count : ℕ) (counted : count ≡ stationsOf (chain preds (length preds) station)) where
       outcome-here : outcome preds station (length out) ≡ fitted (length out) (chain preds (length preds) station)
       outcome-here = outcome-chain preds station (length out) few below (λ f. n (e ∙ f))

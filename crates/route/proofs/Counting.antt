@@ -2,7 +2,8 @@
 -- turn those of the whole chain.
 use Rattle.common.proofs.Ground.{_≡_, refl, sym, _∙_, List, ℕ, suc, _+_, _-_, _<_, _≤_, arith, length, length-append}
 use Rattle.common.specs.Numbers.{sourceMark}
-use Rattle.route.specs.Route.{predecessorAt, Chain, whole, broken, lengthened, chain, stationsOf}
+use Rattle.common.specs.Chains.{predAt}
+use Rattle.route.specs.Route.{Chain, whole, broken, lengthened, chain, stationsOf}
 use Rattle.route.proofs.Steps.{chain-source, chain-lost, chain-onward}
 
 -- The stations passed and those of a chain; none where the chain is broken.
@@ -37,7 +38,7 @@ module _ (preds : List ℕ) (station : ℕ) where
         let none : length preds - passed ≡ 0 = omega arith in
         sym (rw none at (inv .same))
 
-    module _ (more : passed < length preds) (e : before ≡ predecessorAt preds v) where
+    module _ (more : passed < length preds) (e : before ≡ predAt preds v) where
       abbrev rest : ℕ
       rest = length preds - (passed + 1)
 
@@ -58,6 +59,6 @@ module _ (preds : List ℕ) (station : ℕ) where
         within = omega arith;
         same =
             rw (left, chain-onward preds rest v (λ f. n (e ∙ f)) (omega arith)) at (inv .same) ∙
-            counted-more passed v (chain preds rest (predecessorAt preds v)) ∙
+            counted-more passed v (chain preds rest (predAt preds v)) ∙
             rw e;
       }

@@ -6,7 +6,8 @@ use Rattle.common.proofs.Ground.{_<_, _≤_, arith, length, take, drop, length-
 use Rattle.common.proofs.Ground.{take-append-add, eqb, ltb, leb, eqb-true, eqb-false, ltb-true, ltb-false, leb-true}
 use Rattle.common.proofs.Ground.{leb-false, le-ltb}
 use Rattle.common.specs.Numbers.{sourceMark, noPred}
-use Rattle.route.specs.Route.{predecessorAt, Chain, whole, broken, chain, trail, back}
+use Rattle.common.specs.Chains.{predAt, back}
+use Rattle.route.specs.Route.{Chain, whole, broken, chain, trail}
 use Rattle.route.specs.Route.{Outcome, found, noRoute, refused, fitted, outcome, RouteTo, begins, extends}
 use Rattle.route.specs.Route.{stations, unreached, turnedDown, Handed, handedBack, returned, routeCall}
 use Rattle.route.specs.declared.RouteAnswer.the-variants.{Found}
@@ -49,7 +50,7 @@ pub record FoundBy (preds : List ℕ) (station room : ℕ) (route : List ℕ) : 
 pub found-by : (preds : List ℕ) (station room : ℕ) (route : List ℕ) → outcome preds station room ≡ found route →
     FoundBy preds station room route
 found-by preds station room route e =
-    by (ltb 2048 (length preds)) (leb (length preds) station) (eqb (predecessorAt preds station) noPred)
+    by (ltb 2048 (length preds)) (leb (length preds) station) (eqb (predAt preds station) noPred)
     refl refl refl
   where
     chained : (c : Chain) → chain preds (length preds) station ≡ c → length preds ≤ 2048 → found route ≡ fitted room c →
@@ -69,7 +70,7 @@ found-by preds station room route e =
             })
 
     by : (s t u : Bool) → ltb 2048 (length preds) ≡ s → leb (length preds) station ≡ t →
-        eqb (predecessorAt preds station) noPred ≡ u → FoundBy preds station room route
+        eqb (predAt preds station) noPred ≡ u → FoundBy preds station room route
     by true t u a b d =
         let other = outcome-many preds station room (ltb-true 2048 (length preds) a) in
         absurd (let z : _≡_ {A = ℕ} 0 1 = cc in omega arith)
@@ -80,18 +81,18 @@ found-by preds station room route e =
         let few = ltb-false 2048 (length preds) a in
         let other =
         outcome-none preds station room few (leb-false (length preds) station b)
-        (eqb-true (predecessorAt preds station) noPred d) in
+        (eqb-true (predAt preds station) noPred d) in
         absurd (let z : _≡_ {A = ℕ} 0 1 = cc in omega arith)
     by false false false a b d =
         let few = ltb-false 2048 (length preds) a in
         chained (chain preds (length preds) station) refl few
         (sym e ∙
         outcome-chain preds station room few (leb-false (length preds) station b)
-        (eqb-false (predecessorAt preds station) noPred d))
+        (eqb-false (predAt preds station) noPred d))
 
 -- A station with a route has an entry.
 has-entry : {preds : List ℕ} {v : ℕ} {route : List ℕ} → length preds ≤ 2048 → RouteTo preds v route →
-    predecessorAt preds v ≡ noPred → ⊥
+    predAt preds v ≡ noPred → ⊥
 has-entry few (begins v h s) n = omega arith
 has-entry few (extends u v route r h e) n = omega (arith, route-station r)
 
@@ -128,24 +129,24 @@ found-station preds station room front v rest e =
 
 -- Predecessors that meet a 65,534 entry behind stations only make a route.
 pub steps-lead : (preds : List ℕ) (k v : ℕ) → ((j : ℕ) → j ≤ k → back preds j v < length preds) →
-    predecessorAt preds (back preds k v) ≡ sourceMark → RouteTo preds v (trail preds (suc k) v)
+    predAt preds (back preds k v) ≡ sourceMark → RouteTo preds v (trail preds (suc k) v)
 unfolding back trail
 steps-lead preds zero v below s = begins v (below 0 (omega arith)) s
 steps-lead preds (suc k) v below s =
-    extends (predecessorAt preds v) v (trail preds (suc k) (predecessorAt preds v))
-    (steps-lead preds k (predecessorAt preds v) (λ j h. below (suc j) (omega arith)) s)
+    extends (predAt preds v) v (trail preds (suc k) (predAt preds v))
+    (steps-lead preds k (predAt preds v) (λ j h. below (suc j) (omega arith)) s)
     (below 0 (omega arith)) refl
 
 pub trail-length : (preds : List ℕ) (k v : ℕ) → length (trail preds k v) ≡ k
 unfolding trail
 trail-length preds zero v = refl
 trail-length preds (suc k) v =
-    one-longer (trail preds k (predecessorAt preds v)) v ∙ rw (trail-length preds k (predecessorAt preds v))
+    one-longer (trail preds k (predAt preds v)) v ∙ rw (trail-length preds k (predAt preds v))
 
 -- A route is found where k steps, at most n - 1, lead to the source, and every number on the way is below n.
 pub steps-found : (preds : List ℕ) (station room k : ℕ) → length preds ≤ 2048 → k < length preds →
     ((j : ℕ) → j ≤ k → back preds j station < length preds) →
-    predecessorAt preds (back preds k station) ≡ sourceMark → k < room →
+    predAt preds (back preds k station) ≡ sourceMark → k < room →
     outcome preds station room ≡ found (trail preds (suc k) station)
 steps-found preds station room k few within below s fits =
     let size = trail-length preds (suc k) station in

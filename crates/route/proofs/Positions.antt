@@ -4,7 +4,8 @@ use Rattle.common.proofs.Ground.{_≡_, refl, sym, _∙_, Bool, true, false, Li
 use Rattle.common.proofs.Ground.{arith, length, getD, take, List·getD-append, take-all, take-append-le}
 use Rattle.common.proofs.Ground.{getD-append-seam, ltb, ltb-true, ltb-false}
 use Rattle.common.specs.Numbers.{sourceMark, noPred}
-use Rattle.route.specs.Route.{predecessorAt, RouteTo, begins, extends}
+use Rattle.common.specs.Chains.{predAt}
+use Rattle.route.specs.Route.{RouteTo, begins, extends}
 use Rattle.route.proofs.Routes.{one-longer, route-some}
 
 -- The station at a position of a route.
@@ -32,7 +33,7 @@ route-ends (extends u v route r h e) =
 
 -- It begins with a station whose entry is 65,534.
 pub route-begins : {preds : List ℕ} {v : ℕ} {route : List ℕ} → RouteTo preds v route →
-    predecessorAt preds (stationAt route 0) ≡ sourceMark
+    predAt preds (stationAt route 0) ≡ sourceMark
 route-begins (begins v h s) = s
 route-begins (extends u v route r h e) =
     rw (List·getD-append route (v ∷ []) noPred 0 (route-some r)) (route-begins r)
@@ -51,7 +52,7 @@ route-below {preds} (extends u v route r h e) i l =
 
 -- The entry of each later station is the one before it.
 pub route-linked : {preds : List ℕ} {v : ℕ} {route : List ℕ} → RouteTo preds v route → (i : ℕ) → i + 1 < length route →
-    predecessorAt preds (stationAt route (i + 1)) ≡ stationAt route i
+    predAt preds (stationAt route (i + 1)) ≡ stationAt route i
 route-linked (begins v h s) i l = absurd (omega arith)
 route-linked {preds} (extends u v route r h e) i l =
     by (λ inner. route-linked r i inner) (ltb (i + 1) (length route)) refl
@@ -59,9 +60,9 @@ route-linked {preds} (extends u v route r h e) i l =
     earlier : i < length route
     earlier = omega (arith, one-longer route v)
 
-    by : (i + 1 < length route → predecessorAt preds (stationAt route (i + 1)) ≡ stationAt route i) →
+    by : (i + 1 < length route → predAt preds (stationAt route (i + 1)) ≡ stationAt route i) →
         (t : Bool) → ltb (i + 1) (length route) ≡ t →
-        predecessorAt preds (stationAt (route ++ v ∷ []) (i + 1)) ≡ stationAt (route ++ v ∷ []) i
+        predAt preds (stationAt (route ++ v ∷ []) (i + 1)) ≡ stationAt (route ++ v ∷ []) i
     by linked true f =
         let inner = ltb-true (i + 1) (length route) f in
         rw (

@@ -3,7 +3,8 @@
 use Rattle.common.proofs.Ground.{_≡_, refl, ap, _∙_, Bool, true, false, List, [], _∷_, _++_, ℕ, zero, suc, _<_, _≤_}
 use Rattle.common.proofs.Ground.{arith, length, length-append, List·getD-eq-default, ltb, ltb-true, ltb-false}
 use Rattle.common.specs.Numbers.{noPred}
-use Rattle.route.specs.Route.{predecessorAt, whole, chain, trail}
+use Rattle.common.specs.Chains.{predAt}
+use Rattle.route.specs.Route.{whole, chain, trail}
 use Rattle.route.specs.Route.{RouteTo, begins, extends}
 use Rattle.route.proofs.Steps.{WholeBy, at-source, behind, whole-by, chain-source, chain-onward}
 
@@ -13,7 +14,7 @@ one-longer route v = simp length-append (omega arith)
 
 -- A number whose entry is not 65,535 is a station.
 module _ (preds : List ℕ) (v : ℕ) where
-  pub is-station : (predecessorAt preds v ≡ noPred → ⊥) → v < length preds
+  pub is-station : (predAt preds v ≡ noPred → ⊥) → v < length preds
   is-station n = inside (ltb v (length preds)) refl
     where
       inside : (t : Bool) → ltb v (length preds) ≡ t → v < length preds
@@ -25,24 +26,24 @@ module _ (preds : List ℕ) (few : length preds ≤ 2048) where
   pub whole-is-route : (most v : ℕ) (route : List ℕ) → chain preds most v ≡ whole route → RouteTo preds v route
   unfolding chain
   whole-is-route zero v route e = absurd (let z : _≡_ {A = ℕ} 0 1 = cc in omega arith)
-  whole-is-route (suc most) v route e = by (whole-by preds most v route e) (whole-is-route most (predecessorAt preds v))
+  whole-is-route (suc most) v route e = by (whole-by preds most v route e) (whole-is-route most (predAt preds v))
     where
       by : WholeBy preds most v route →
-          ((front : List ℕ) → chain preds most (predecessorAt preds v) ≡ whole front →
-          RouteTo preds (predecessorAt preds v) front) →
+          ((front : List ℕ) → chain preds most (predAt preds v) ≡ whole front →
+          RouteTo preds (predAt preds v) front) →
           RouteTo preds v route
       by (at-source s f) before = rw f (begins v (is-station preds v (λ g. omega arith)) s)
       by (behind front h g f) before =
-          rw f (extends (predecessorAt preds v) v front (before front g) (is-station preds v (λ g. omega arith)) refl)
+          rw f (extends (predAt preds v) v front (before front g) (is-station preds v (λ g. omega arith)) refl)
 
   -- It has at most as many stations as the definition allows.
   pub whole-is-short : (most v : ℕ) (route : List ℕ) → chain preds most v ≡ whole route → length route ≤ most
   unfolding chain
   whole-is-short zero v route e = absurd (let z : _≡_ {A = ℕ} 0 1 = cc in omega arith)
-  whole-is-short (suc most) v route e = by (whole-by preds most v route e) (whole-is-short most (predecessorAt preds v))
+  whole-is-short (suc most) v route e = by (whole-by preds most v route e) (whole-is-short most (predAt preds v))
     where
       by : WholeBy preds most v route →
-          ((front : List ℕ) → chain preds most (predecessorAt preds v) ≡ whole front → length front ≤ most) →
+          ((front : List ℕ) → chain preds most (predAt preds v) ≡ whole front → length front ≤ most) →
           length route ≤ suc most
       by (at-source s f) before = rw f (omega arith)
       by (behind front h g f) before = rw (f, one-longer front v) (omega (arith, before front g))
@@ -71,6 +72,6 @@ pub route-found : {preds : List ℕ} {v : ℕ} {route : List ℕ} (most : ℕ) �
 route-found zero few r short = absurd (omega (arith, route-some r))
 route-found {preds} (suc most) few (begins v h s) short = chain-source preds most v s
 route-found {preds} (suc most) few (extends u v route r h e) short =
-    let below : predecessorAt preds v < length preds = rw e (route-station r) in
+    let below : predAt preds v < length preds = rw e (route-station r) in
     chain-onward preds most v (λ f. omega arith) below ∙
     rw (e, route-found most few r (omega (arith, one-longer route v)))

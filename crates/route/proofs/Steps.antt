@@ -3,35 +3,36 @@ use Rattle.common.proofs.Ground.{_≡_, refl, sym, _∙_, Bool, true, false, Li
 use Rattle.common.proofs.Ground.{arith, length, eqb, ltb, eq-eqb, ne-eqb, lt-ltb, le-ltb, eqb-true, eqb-false}
 use Rattle.common.proofs.Ground.{ltb-true, ltb-false}
 use Rattle.common.specs.Numbers.{sourceMark}
-use Rattle.route.specs.Route.{predecessorAt, Chain, whole, broken, lengthened, chain}
+use Rattle.common.specs.Chains.{predAt}
+use Rattle.route.specs.Route.{Chain, whole, broken, lengthened, chain}
 
 module _ (preds : List ℕ) (most v : ℕ) where
-  pub chain-source : predecessorAt preds v ≡ sourceMark → chain preds (suc most) v ≡ whole (v ∷ [])
+  pub chain-source : predAt preds v ≡ sourceMark → chain preds (suc most) v ≡ whole (v ∷ [])
   unfolding chain
   chain-source e = simp (eq-eqb _ _ e)
 
-  pub chain-lost : (predecessorAt preds v ≡ sourceMark → ⊥) → length preds ≤ predecessorAt preds v →
+  pub chain-lost : (predAt preds v ≡ sourceMark → ⊥) → length preds ≤ predAt preds v →
       chain preds (suc most) v ≡ broken
   unfolding chain
   chain-lost n h = simp (ne-eqb _ _ n, le-ltb _ _ h)
 
-  pub chain-onward : (predecessorAt preds v ≡ sourceMark → ⊥) → predecessorAt preds v < length preds →
-      chain preds (suc most) v ≡ lengthened (chain preds most (predecessorAt preds v)) v
+  pub chain-onward : (predAt preds v ≡ sourceMark → ⊥) → predAt preds v < length preds →
+      chain preds (suc most) v ≡ lengthened (chain preds most (predAt preds v)) v
   unfolding chain
   chain-onward n h = simp (ne-eqb _ _ n, lt-ltb _ _ h)
 
 -- The two ways to a whole chain: v is the source, or v stands behind the chain of its predecessor.
 pub data WholeBy (preds : List ℕ) (most v : ℕ) (route : List ℕ) : Type 0 where
-  at-source : predecessorAt preds v ≡ sourceMark → route ≡ v ∷ [] → WholeBy preds most v route
-  behind : (front : List ℕ) → predecessorAt preds v < length preds →
-      chain preds most (predecessorAt preds v) ≡ whole front → route ≡ front ++ v ∷ [] → WholeBy preds most v route
+  at-source : predAt preds v ≡ sourceMark → route ≡ v ∷ [] → WholeBy preds most v route
+  behind : (front : List ℕ) → predAt preds v < length preds →
+      chain preds most (predAt preds v) ≡ whole front → route ≡ front ++ v ∷ [] → WholeBy preds most v route
 
 pub whole-by : (preds : List ℕ) (most v : ℕ) (route : List ℕ) → chain preds (suc most) v ≡ whole route →
     WholeBy preds most v route
 whole-by preds most v route e = tested (eqb u sourceMark) (ltb u (length preds)) refl refl
   where
     u : ℕ
-    u = predecessorAt preds v
+    u = predAt preds v
 
     onward : (c : Chain) → chain preds most u ≡ c → u < length preds → whole route ≡ lengthened c v →
         WholeBy preds most v route

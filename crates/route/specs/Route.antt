@@ -1,19 +1,16 @@
 -- What the call `route` has to hand back, as functions on lists (01, "Route, whole check, program" and rows 15 to 17 of
 -- "What is turned down"). Each definition stands under the sentence that it states; n is the number of predecessors.
 use mathlib.Core.Path.{_≡_}
-use mathlib.Core.Bool.{Bool, true, false, _||_}
+use mathlib.Core.Bool.{_||_}
 use mathlib.Core.List.{List, [], _∷_, _++_}
 use Prim.Native.Nat.{ℕ, zero, suc, _<_}
-use lib.ListN.{length, getD, drop}
+use lib.ListN.{length, drop}
 use lib.Dec.{ltb, leb, eqb}
 use Rattle.route.specs.declared.RouteAnswer.{RouteAnswer}
 use Rattle.route.specs.declared.RouteAnswer.the-variants.{Found, NoRoute, Refused}
 use Rattle.common.specs.Pick.{pick}
 use Rattle.common.specs.Numbers.{sourceMark, noPred}
-
--- The entry of a station; a number that is no station has none.
-abbrev pub predecessorAt : List ℕ → ℕ → ℕ
-predecessorAt preds v = getD preds v noPred
+use Rattle.common.specs.Chains.{predAt}
 
 -- What following the predecessors of a station gives: the stations from source to station, or a broken chain.
 pub data Chain : Type 0 where
@@ -31,9 +28,9 @@ lengthened broken v = broken
 unfoldable pub chain : List ℕ → ℕ → ℕ → Chain
 chain preds zero v = broken
 chain preds (suc most) v =
-    let further = lengthened (chain preds most (predecessorAt preds v)) v in
-    pick (eqb (predecessorAt preds v) sourceMark) (whole (v ∷ []))
-    (pick (ltb (predecessorAt preds v) (length preds)) further broken)
+    let further = lengthened (chain preds most (predAt preds v)) v in
+    pick (eqb (predAt preds v) sourceMark) (whole (v ∷ []))
+    (pick (ltb (predAt preds v) (length preds)) further broken)
 
 -- "It writes the stations from source to station and answers their count"; "or "no route""; or the number of a refusal.
 pub data Outcome : Type 0 where
@@ -51,7 +48,7 @@ fitted room (whole route) = pick (ltb room (length route)) (refused 17) (found r
 unfoldable pub outcome : List ℕ → ℕ → ℕ → Outcome
 outcome preds station room =
     pick (eqb (length preds) 0 || ltb 2048 (length preds) || leb (length preds) station) (refused 15)
-    (pick (eqb (predecessorAt preds station) noPred) noRoute
+    (pick (eqb (predAt preds station) noPred) noRoute
     (fitted room (chain preds (length preds) station)))
 
 -- What the caller sees: a count of stations, no route, or the number of a refusal; and the output.
@@ -94,20 +91,15 @@ stationsOf broken = 0
 -- The last k stations on the way to v, by predecessors alone.
 unfoldable pub trail : List ℕ → ℕ → ℕ → List ℕ
 trail preds zero v = []
-trail preds (suc k) v = trail preds k (predecessorAt preds v) ++ v ∷ []
+trail preds (suc k) v = trail preds k (predAt preds v) ++ v ∷ []
 
 -- The output with the last k stations on the way to v written to its front, later entries kept.
 abbrev pub writtenTo : List ℕ → ℕ → ℕ → List ℕ → List ℕ
 writtenTo preds k v out = trail preds k v ++ drop k out
 
--- For the laws (proofs/Laws.antt): the number that k steps back from v meet.
-unfoldable pub back : List ℕ → ℕ → ℕ → ℕ
-back preds zero v = v
-back preds (suc k) v = back preds k (predecessorAt preds v)
-
 -- What a route is: it ends in the station, begins with a station whose entry is 65,534, the entry of each later station
 -- is the one before it, and all its stations are below n.
 pub data RouteTo (preds : List ℕ) : ℕ → List ℕ → Type 0 where
-  begins : (v : ℕ) → v < length preds → predecessorAt preds v ≡ sourceMark → RouteTo preds v (v ∷ [])
-  extends : (u v : ℕ) (route : List ℕ) → RouteTo preds u route → v < length preds → predecessorAt preds v ≡ u →
+  begins : (v : ℕ) → v < length preds → predAt preds v ≡ sourceMark → RouteTo preds v (v ∷ [])
+  extends : (u v : ℕ) (route : List ℕ) → RouteTo preds u route → v < length preds → predAt preds v ≡ u →
       RouteTo preds v (route ++ v ∷ [])

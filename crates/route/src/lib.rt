@@ -4,7 +4,8 @@
 ghost use mathlib.Core.Path.{_≡_};
 ghost use Prim.Native.Nat.{_≤_};
 ghost use lib.ListN.{length};
-ghost use Rattle.route.specs.Route.{predecessorAt, chain, stationsOf, writtenTo, returned, routeCall};
+ghost use Rattle.common.specs.Chains.{predAt};
+ghost use Rattle.route.specs.Route.{chain, stationsOf, writtenTo, returned, routeCall};
 use common::NO_PRED;
 use common::SOURCE;
 
@@ -20,7 +21,7 @@ pub enum RouteAnswer {
 
 // A number that is no station has no predecessor, so a chain that leaves the table ends there.
 fn predecessor_at(preds: &[u16], v: u16) -> u16
-    ensures value { λ r. ⌜ r ≡ predecessorAt (now (preds .entry)) v ⌝ }
+    ensures value { λ r. ⌜ r ≡ predAt (now (preds .entry)) v ⌝ }
 {
     let at = v as usize;
     if at < preds.len() { preds[at] } else { NO_PRED }

@@ -14,7 +14,8 @@ use Rattle.image.specs.Image.{Outcome, accepted, refused, Place, nowhere, at-st
 use Rattle.whole.specs.Check.{wholeCheck}
 use Rattle.whole.proofs.Offsets.{PlaceBy256, whole-by-256}
 use Rattle.route.specs.Route as route
-use Rattle.route.specs.Route.{Chain, whole, broken, lengthened, chain, predecessorAt}
+use Rattle.common.specs.Chains.{predAt}
+use Rattle.route.specs.Route.{Chain, whole, broken, lengthened, chain}
 use Rattle.route.specs.Route.{found, noRoute, fitted, outcome, handedBack, routeCall}
 use Rattle.map.proofs.Offered.{bad-page}
 use Rattle.reply.specs.Reply.{Query, frameOf, pagesOf, Lent, ended, callCheck, onMap, afterCheck, searched}
@@ -80,8 +81,8 @@ chain-by : (preds : List ℕ) (most v : ℕ) → ChainBy most (chain preds most 
 unfolding chain
 chain-by preds zero v = tt
 chain-by preds (suc most) v =
-    further (eqb (predecessorAt preds v) sourceMark) (ltb (predecessorAt preds v) (length preds))
-    (chain preds most (predecessorAt preds v)) (chain-by preds most (predecessorAt preds v))
+    further (eqb (predAt preds v) sourceMark) (ltb (predAt preds v) (length preds))
+    (chain preds most (predAt preds v)) (chain-by preds most (predAt preds v))
   where
     further : (a b : Bool) (before : Chain) → ChainBy most before
         → ChainBy (suc most) (pick a (whole (v ∷ [])) (pick b (lengthened before v) broken))
@@ -105,7 +106,7 @@ module _ (preds : List ℕ) (station : ℕ) (out : List ℕ) where
   unfolding routeCall outcome
   small-route =
       by-tests (eqb (length preds) 0) (ltb 2048 (length preds)) (leb (length preds) station)
-      (eqb (predecessorAt preds station) noPred) refl
+      (eqb (predAt preds station) noPred) refl
     where
       by-tests : (a b c d : Bool) → ltb 2048 (length preds) ≡ b
           → Small (ofRoute ((handedBack
