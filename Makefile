@@ -61,6 +61,7 @@ c-example: libyard
 	target/way examples/plate/yard.map 203 202 8440
 	target/way examples/plate/yard.map 203 202 8441
 	target/way examples/plate/yard.map 203 204 12001; test $$? = 3
+	target/way examples/plate/yard.map 203 181
 	target/panel crates/coils/data/yard.map 0 6
 	target/panel crates/coils/data/yard.map 0 7; test $$? = 1
 	target/panel crates/coils/data/yard.map 7 0; test $$? = 1
@@ -70,6 +71,7 @@ c-example: libyard
 	target/panel examples/plate/yard.map 203 202 8440
 	target/panel examples/plate/yard.map 203 202 8441
 	target/panel examples/plate/yard.map 203 204 12001; test $$? = 3
+	target/panel examples/plate/yard.map 203 181
 
 # Measures the stack of each call of the C interface, on full and on damaged maps (needs a C compiler and ucontext).
 stack: libyard

@@ -132,7 +132,7 @@ impl<M: Moves> Graph<'_, M> {
 
     /// Takes a move in if it is open; none if it is not a good one.
     fn take_move(&mut self, from: u16, last: Option<u16>, target: u16, time: u16, open: bool) -> Option<()> {
-        let good = usize::from(target) < self.directory.len() && target != from && time != 0;
+        let good = usize::from(target) < self.directory.len() && target != from;
         if !good || last >= Some(target) {
             return None;
         }
@@ -189,7 +189,8 @@ pub fn search<M: Moves, K: Key>(
     heap.push(Reverse(K::new(0, 0, source)));
     while let Some(Reverse(key)) = heap.pop() {
         let (time, made, station) = key.parts();
-        // Lowered since it was pushed: the lesser entry has been worked off before.
+        // Lowered since it was pushed: the lesser entry has been worked off before. No other can be lowered any more,
+        // since every move makes a way more, one of time 0 too.
         if (time, made) > (times[usize::from(station)], moves[usize::from(station)]) {
             continue;
         }

@@ -61,12 +61,17 @@ pub struct Details<'a> {
     pub list: &'a [u8],
 }
 
-/// All that are built in, on one map.
+/// All that are built in and take the map.
 pub fn all<'a>(map: &Map, image: &'a [u8]) -> Vec<Box<dyn Contestant + 'a>> {
     let mut all: Vec<Box<dyn Contestant>> = Vec::new();
     for &(name, call) in FROM_BYTES {
         let stations = map.stations();
         all.push(Box::new(FromBytes { name, image, call, stations, kept: Kept::new(), count: 0, reached: 0 }));
+    }
+    // A base from before document 02's "Handover without time" refuses moves of time 0, with 13.
+    #[cfg(base)]
+    if base::check(image, &mut [0; 4]) == 13 {
+        all.retain(|one| !matches!(one.name(), Name::BasePlain | Name::BaseDf));
     }
     #[cfg(peers)]
     all.extend(crate::peers::all(map));

@@ -1,5 +1,6 @@
 //! The maps that are measured. Pages are filled with moves: on full maps of the largest size a page has some 8.5
-//! stations and 46 moves; on dense ones 20, 30 or 40 stations, which leave room for 39, 33 or 27 moves.
+//! stations and 46 moves; on dense ones 20, 30 or 40 stations, which leave room for 39, 33 or 27 moves. On handover
+//! maps, full ones too, half of the moves take no time (document 02, "Handover without time").
 
 use outside::maps::Map;
 use outside::random::Random;
@@ -37,6 +38,8 @@ pub struct Shape {
     pub reach: Reach,
     pub layout: Layout,
     pub pace: Pace,
+    /// Half of the moves take no time, whatever the pace.
+    pub handovers: bool,
 }
 
 /// Maps of one kind, with a name for each.
@@ -45,11 +48,12 @@ pub struct Group {
     pub maps: Vec<(String, Shape)>,
 }
 
-pub fn groups() -> [Group; 3] {
+pub fn groups() -> [Group; 4] {
     [
         Group { name: "Full maps (2,048 stations, 240 pages)", maps: full() },
         Group { name: "Dense maps (2,040 stations)", maps: dense() },
         Group { name: "Smaller maps", maps: smaller() },
+        Group { name: "Handover maps (2,048 stations, 240 pages)", maps: handovers() },
     ]
 }
 
@@ -71,10 +75,10 @@ pub fn full() -> Vec<(String, Shape)> {
 }
 
 fn shape(reach: Reach, layout: Layout, pace: Pace) -> Shape {
-    Shape { stations: 2048, pages: 240, stride: 1, reach, layout, pace }
+    Shape { stations: 2048, pages: 240, stride: 1, reach, layout, pace, handovers: false }
 }
 
-/// The two shapes that dense and smaller maps have.
+/// The two shapes that dense, smaller and handover maps have.
 fn near_and_far() -> [(&'static str, Shape); 2] {
     [
         ("near moves, times 1 to 10", shape(Reach::Near, Layout::Blocks, Pace::Small)),
@@ -103,6 +107,10 @@ fn smaller() -> Vec<(String, Shape)> {
         }
     }
     maps
+}
+
+fn handovers() -> Vec<(String, Shape)> {
+    near_and_far().map(|(name, full)| (format!("{name}, half of them 0"), Shape { handovers: true, ..full })).to_vec()
 }
 
 impl Shape {
@@ -151,6 +159,9 @@ impl Shape {
     }
 
     fn time(&self, random: &mut Random) -> u16 {
+        if self.handovers && random.one_in(2) {
+            return 0;
+        }
         match self.pace {
             Pace::Small => random.from_to(1, 10) as u16,
             Pace::Large => random.from_to(1, 65_535) as u16,

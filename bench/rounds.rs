@@ -70,16 +70,18 @@ impl Measured {
         self.times.iter().map(|&(name, _)| name).collect()
     }
 
-    pub fn time(&self, name: Name) -> Spread {
-        Spread::new(self.of(name))
+    /// None for a contestant that was not there.
+    pub fn time(&self, name: Name) -> Option<Spread> {
+        Some(Spread::new(self.of(name)?))
     }
 
-    pub fn ratio(&self, (ours, theirs): (Name, Name)) -> Spread {
-        Spread::of_ratios(self.of(ours), self.of(theirs))
+    pub fn ratio(&self, (ours, theirs): (Name, Name)) -> Option<Spread> {
+        Some(Spread::of_ratios(self.of(ours)?, self.of(theirs)?))
     }
 
-    fn of(&self, name: Name) -> &[f64] {
-        &self.times.iter().find(|(its, _)| *its == name).expect("a contestant").1
+    fn of(&self, name: Name) -> Option<&[f64]> {
+        let times = self.times.iter().find(|(its, _)| *its == name)?;
+        Some(&times.1)
     }
 }
 

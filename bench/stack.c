@@ -135,7 +135,7 @@ static size_t put_station(size_t at, uint32_t own, uint32_t longest, int limited
             continue;
         image[at++] = limited ? 3 : 2;
         at = put_word(at, target);
-        at = put_word(at, 1 + below(longest));
+        at = put_word(at, below(longest + 1));
         if (limited)
             at = put_word(at, 1 + below(65535));
     }
@@ -143,8 +143,8 @@ static size_t put_station(size_t at, uint32_t own, uint32_t longest, int limited
 }
 
 /*
- * A full map: all stations, all pages, in rows of neighbours (kind even) or dealt out; times up to a longest one; from
- * kind LIMITED_FROM on all moves have limits.
+ * A full map: all stations, all pages, in rows of neighbours (kind even) or dealt out; times from 0 to a longest one;
+ * from kind LIMITED_FROM on all moves have limits.
  */
 static void put_full_map(uint32_t kind)
 {

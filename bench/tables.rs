@@ -18,6 +18,11 @@ impl Group {
     }
 }
 
+/// A cell of a table; empty where a contestant was not there.
+fn cell(spread: Option<Spread>, places: usize) -> String {
+    spread.map_or(String::new(), |spread| format!("{spread:.places$}"))
+}
+
 fn print_heading(first: &str, columns: &[String]) {
     println!("\n| {first} | {} |", columns.join(" | "));
     println!("|---|{}", "---|".repeat(columns.len()));
@@ -28,7 +33,7 @@ pub fn print_times(groups: &[Group]) {
     let names = groups[0].maps[0].1.names();
     print_heading("Microseconds", &names.iter().map(|name| name.to_string()).collect::<Vec<_>>());
     for group in groups {
-        group.print_rows(|measured| names.iter().map(|&name| format!("{:.0}", measured.time(name))).collect());
+        group.print_rows(|measured| names.iter().map(|&name| cell(measured.time(name), 0)).collect());
     }
 }
 
@@ -42,10 +47,12 @@ pub fn print_ratios(groups: &[Group], rivals: &[(Name, Name)]) {
     let columns: Vec<_> = pairs.iter().map(|(ours, theirs)| format!("{ours} to {theirs}")).collect();
     print_heading("Ratios", &columns);
     for group in groups {
-        group.print_rows(|measured| pairs.iter().map(|&pair| format!("{:.2}", measured.ratio(pair))).collect());
+        group.print_rows(|measured| pairs.iter().map(|&pair| cell(measured.ratio(pair), 2)).collect());
         let means = pairs.iter().map(|&pair| {
-            let medians: Vec<f64> = group.maps.iter().map(|(_, measured)| measured.ratio(pair).median).collect();
-            format!("**{:.2}**", Spread::over_maps(&medians))
+            let ratios = group.maps.iter().filter_map(|(_, measured)| measured.ratio(pair));
+            let medians: Vec<f64> = ratios.map(|ratio| ratio.median).collect();
+            let mean = (!medians.is_empty()).then(|| Spread::over_maps(&medians));
+            mean.map_or(String::new(), |mean| format!("**{mean:.2}**"))
         });
         println!("| **{}: geometric mean** | {} |", group.name, means.collect::<Vec<_>>().join(" | "));
     }

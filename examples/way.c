@@ -48,8 +48,9 @@ static enum status find_way(const struct arguments *asked)
     }
     for (i = 0; i < answer[0]; i++)
         printf("%u ", (unsigned)way[i]);
-    printf("in %u tenths of a second, %u moves, %u page fetches\n", (unsigned)times[asked->station],
-           (unsigned)moves[asked->station], (unsigned)pages);
+    printf("in %u tenths of a second, %u move%s, %u page fetch%s\n", (unsigned)times[asked->station],
+           (unsigned)moves[asked->station], moves[asked->station] == 1 ? "" : "s", (unsigned)pages,
+           pages == 1 ? "" : "es");
     return STATUS_FOUND;
 }
 

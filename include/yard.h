@@ -7,12 +7,13 @@
  *     N bytes          the directory: the page of each station, below P
  *     P pages of YARD_PAGE_BYTES, each a row of commands:
  *         01, u16 s            begins station s
- *         02, u16 v, u16 t     a move of that station: to station v, in t tenths of a second, 1 to 65,535
+ *         02, u16 v, u16 t     a move of that station: to station v, in t tenths of a second, 0 to 65,535
  *         03, u16 v, u16 t, u16 l
  *                              such a move with a limit: it takes strips of up to l decimetres, 1 to 65,535
  *         00                   ends the page; zeros follow
- * A page names just its own stations, rising; the targets of a station rise and differ from it. README.md says it at
- * more length, and lists the definitions that say it exactly.
+ * A page names just its own stations, rising; the targets of a station rise and differ from it. A time of 0 is a
+ * handover: a stop, such as a turntable, that has two station numbers. README.md says it at more length, and lists the
+ * definitions that say it exactly.
  *
  * A slice is passed as a pointer and a length in entries; a length of 0 needs a pointer that is not null. The slices
  * of one call must not overlap. No call allocates, and none keeps a pointer.
@@ -25,13 +26,13 @@
  *
  * Stack: a call's stack use stays below 256 KiB. The most that was seen, in bytes, arguments included (`make stack` on
  * x86-64: full maps and damaged ones):
- *     yard_check 77,512    yard_plain 112,760    yard_df 112,760    yard_route 72    yard_panel 133,192
+ *     yard_check 77,504    yard_plain 112,752    yard_df 112,752    yard_route 72    yard_panel 133,184
  *
- * Each call but yard_panel returns 0 if accepted, else the refusal's number (1 to 18); yard_panel returns a double and
- * has no answer. Where answer has four entries or more, the first four get
+ * Each call but yard_panel returns 0 if accepted, else the refusal's number (1 to 18, but never 13); yard_panel returns
+ * a double and has no answer. Where answer has four entries or more, the first four get
  *     answer[0]  count:   entries of the page list, or stations on the route
  *     answer[1]  reached: stations that have a time, the source among them
- *     answer[2]  page of a page refusal (8 to 14 and 18); for refusal 5 the station
+ *     answer[2]  page of a page refusal (8 to 12, 14 and 18); for refusal 5 the station
  *     answer[3]  offset of a page refusal in its page, in bytes: that of the command at fault
  * and numbers that do not apply are 0. A shorter answer is left as it is, and so are later entries.
  */
@@ -47,7 +48,7 @@ extern "C" {
 
 /* The version of this interface: MAJOR rises when programs have to change, MINOR when something is added. */
 #define YARD_VERSION_MAJOR 3
-#define YARD_VERSION_MINOR 0
+#define YARD_VERSION_MINOR 1
 
 /* The limits of a map. Read a file into YARD_MAX_IMAGE_BYTES + 1 bytes: one that is too long is then refused by 4. */
 #define YARD_MAX_STATIONS 2048
@@ -85,13 +86,13 @@ enum yard_refusal {
     YARD_REFUSED_STATION_ORDER = 10,
     YARD_REFUSED_MOVE_BEFORE_STATION = 11,
     YARD_REFUSED_TARGET = 12,
-    YARD_REFUSED_TIME_ZERO = 13,
+    YARD_REFUSED_TIME_ZERO = 13, /* not used since 3.1, where a move may take no time: no call returns it */
     YARD_REFUSED_BYTE_AFTER_END = 14,
     /* of a route */
     YARD_REFUSED_ROUTE_STATION = 15,
     YARD_REFUSED_ROUTE_CHAIN = 16,
     YARD_REFUSED_ROUTE_ROOM = 17,
-    /* of a page, as 8 to 14 */
+    /* of a page, as 8 to 12 and 14 */
     YARD_REFUSED_LIMIT_ZERO = 18
 };
 
@@ -112,7 +113,6 @@ static inline const char *yard_refusal_meaning(uint32_t refusal)
     case YARD_REFUSED_STATION_ORDER: return "not the next station of the page, or one is missing at the end";
     case YARD_REFUSED_MOVE_BEFORE_STATION: return "move before a station";
     case YARD_REFUSED_TARGET: return "target is not a station of the map, is the station itself, or does not rise";
-    case YARD_REFUSED_TIME_ZERO: return "move takes no time";
     case YARD_REFUSED_BYTE_AFTER_END: return "byte other than 00 after the end";
     case YARD_REFUSED_ROUTE_STATION: return "no predecessors or over 2,048, or no such station among them";
     case YARD_REFUSED_ROUTE_CHAIN: return "predecessors do not lead to a source";
@@ -135,8 +135,9 @@ uint32_t yard_check(const uint8_t *image, size_t image_len, uint32_t *answer, si
 /*
  * The two searches from a source for a strip of a length: yard_plain is Dijkstra's, yard_df fetches fewer pages or as
  * many. A move is used if it has no limit or its limit is not below the length; with a length of 0 every move is. Of
- * two ways that of less time is taken and, at equal time, that of fewer moves. Each table needs an entry for each of
- * the map's N stations (refusal 7), and YARD_MAX_STATIONS entries are enough for every map.
+ * two ways that of less time is taken and, at equal time, that of fewer moves; a move that takes no time counts as a
+ * move. Each table needs an entry for each of the map's N stations (refusal 7), and YARD_MAX_STATIONS entries are enough
+ * for every map.
  *     times    the least time to each station, in tenths of a second
  *     moves    the number of moves on the way: the fewest by which that time is reached
  *     preds    the station before it on the way, of several with that time and number of moves the lowest
@@ -144,9 +145,10 @@ uint32_t yard_check(const uint8_t *image, size_t image_len, uint32_t *answer, si
  *     list     the pages in the order in which they were fetched, a page once for each time
  * Accepted: the first N entries of times, moves, preds and marks are written (a station without a time has
  * YARD_NO_TIME, YARD_NO_MOVES and YARD_NO_PREDECESSOR; the source has time 0, moves 0 and YARD_SOURCE; marks are 0),
- * list holds answer[0] pages, and answer[1] stations have a time. Later entries are kept.
- * Refused by 1 to 7: every table is untouched. Refused by 8 to 14 or 18: the first N entries are as if no station had a
- * time, and list holds the answer[0] pages fetched, the bad one last.
+ * list holds answer[0] pages, and answer[1] stations have a time. Later entries are kept. From every station that has
+ * a time the predecessors lead back to the source, in fewer than N steps, and the source alone has YARD_SOURCE.
+ * Refused by 1 to 7: every table is untouched. Refused by a page (8 to 12, 14, 18): the first N entries are as if no
+ * station had a time, and list holds the answer[0] pages fetched, the bad one last.
  * Where yard_df accepts, yard_plain does too for the same length, with the same times, moves and predecessors, and the
  * list of yard_df is that of yard_plain with some entries left out or none. Of two lengths that a search accepts, no
  * station has a lesser time for the longer one, nor fewer moves where the times are equal.
@@ -163,7 +165,8 @@ uint32_t yard_df(const uint8_t *image, size_t image_len, uint16_t source, uint16
 /*
  * The stations from the source to a station, by the predecessors that a search left (exactly N of them: preds_len is
  * yard_stations of the image). out gets answer[0] stations, later entries kept. A station without a way returns 0 with
- * answer[0] = 0 and writes nothing. Any refusal (15 to 17) writes nothing either.
+ * answer[0] = 0 and writes nothing. Any refusal (15 to 17) writes nothing either. Predecessors that an accepted search
+ * left are never refused by 16.
  */
 uint32_t yard_route(const uint16_t *preds, size_t preds_len, uint16_t station, uint16_t *out, size_t out_len,
                     uint32_t *answer, size_t answer_len);

@@ -1,15 +1,16 @@
-"""What documents 00 and 01 and document 02, C-11 and C-14, promise of the two searches, checked without the steps of a
-search.
+"""What documents 00 and 01 and document 02, C-11, C-14 and C-15, promise of the two searches, checked without the steps
+of a search.
 
     check(image, source, strip, lengths, plain, df, rng)    what is promised of a call
     check_lengths(shorter, longer)                          and of two outcomes, for a shorter and a longer strip
 
 Both stop by an AssertionError where a promise is broken. A way is a pair, time and number of moves: "Less means less
-time, then fewer moves", and so Python compares pairs. Least ways come from rounds over all open moves until nothing
-falls (Bellman and Ford), predecessors from the least ways alone, the refused page from document 01's sentence,
-Dijkstra's list from the order of the least ways, and ours from the ways that are known after each reference; moves are
-also counted along the predecessors. `plain` and `df` are the searches under check; they are called again on images
-whose unlisted pages hold other bytes.
+time, then fewer moves", and so Python compares pairs; a move makes a way more even if it takes no time, and so nothing
+here needs times above 0. Least ways come from rounds over all open moves until nothing falls (Bellman and Ford),
+predecessors from the least ways alone, the refused page from document 01's sentence, Dijkstra's list from the order of
+the least ways, and ours from the ways that are known after each reference; moves are also counted along the
+predecessors, and chains of predecessors walked back to the source. `plain` and `df` are the searches under check; they
+are called again on images whose unlisted pages hold other bytes.
 """
 from collections import Counter
 
@@ -157,6 +158,19 @@ def spelled_ways(yard, predecessors):
     return ways
 
 
+def check_chains(source, times, predecessors):
+    """"Every predecessor chain still ends at the source.": on the way back from each station that has a time the source
+    is met within N - 1 steps. It alone has 65,534, and a station without a time has 65,535."""
+    n = len(times)
+    assert [s for s in range(n) if predecessors[s] == SOURCE] == [source]
+    assert all((predecessors[s] == NOBODY) == (times[s] == NO_TIME) for s in range(n))
+    met = {s for s in range(n) if times[s] != NO_TIME}
+    for _ in range(n - 1):
+        met = {s if s == source else predecessors[s] for s in met}
+        assert max(met) < n
+    assert met == {source}
+
+
 def other_image(image, listed, rng):
     """An image of the same length, heading and directory that has other bytes on all pages but the listed ones."""
     begin = 4 + (number_at(image, 0) if len(image) >= 4 else 0)
@@ -176,6 +190,7 @@ def check_accepted(yard, source, ways, outcome):
     assert outcome.predecessors == lowest_predecessors(yard, source, ways)
     assert outcome.marks == [0] * n
     assert spelled_ways(yard, outcome.predecessors) == ways
+    check_chains(source, outcome.times, outcome.predecessors)
 
 
 def check_refused(yard, place, outcome):

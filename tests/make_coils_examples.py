@@ -10,17 +10,19 @@ The expected lines come from coils.py, and document 01's are stated here by hand
 import random
 
 from coils import LONGEST, ROOM, line, printed
-from make_search_cases import M7, damaged, page_begins, spelled
+from make_search_cases import M7, spelled
 from maps import u16, u32
-from searches import df
+from searches import NO_TIME, df
 from stored import ROOT, keep
 
 # The plate yard: a grid of one-way lanes, its stations numbered by rows and dealt out to the pages by threes, so that
 # a search enters each page again and again; and a siding of four stations on a page of their own, which leads into the
-# grid and to which nothing leads. Some rows and columns take strips of up to a limit in decimetres.
+# grid and to which nothing leads. Some rows and columns take strips of up to a limit in decimetres. Two stations, one
+# below the other and on two pages, are the numbers of one turntable stop.
 ROWS, COLUMNS, SIDING = 18, 22, 4
 GRID_PAGES = 23
 ROW_LIMIT, COLUMN_LIMIT = 8440, 12000
+TURNTABLE = 181, 203
 
 
 def record(coil, length, station):
@@ -67,17 +69,35 @@ def lane_moves(rng):
     return moves
 
 
+def add_turntable(moves):
+    """Lets the lane from its first station to the other take no time, and adds a move back that takes none either."""
+    one, other = TURNTABLE
+    moves[one] = [(target, 0 if target == other else time, limit) for target, time, limit in moves[one]]
+    moves[other].append((one, 0, None))
+
+
 def plate_yard():
-    """The yard's map. The last move of the siding's page takes no time: refusal 13 for whoever reaches that page."""
+    """The yard's map. The last move of the siding's page leads to its own station: refusal 12 for whoever reaches that
+    page."""
     rng = random.Random(400)
     grid = ROWS * COLUMNS
     directory = [s // 3 % GRID_PAGES for s in range(grid)] + [GRID_PAGES] * SIDING
     moves = lane_moves(rng)
+    add_turntable(moves)
     for k in range(SIDING):
         moves[grid + k] = [(k * COLUMNS, 50)]
-    good = spelled(directory, moves, GRID_PAGES + 1)
-    last_move = page_begins(good, GRID_PAGES) + SIDING * 8 - 5
-    return damaged(good, (last_move + 3, 0))
+    last = grid + SIDING - 1
+    moves[last] = [(last, 50)]
+    return spelled(directory, moves, GRID_PAGES + 1)
+
+
+def check_turntable(outcomes):
+    """"A turntable stop has two station numbers and nothing moves between them.": their times are equal, and in some
+    search the way to either is by the other."""
+    one, other = TURNTABLE
+    assert all(outcome.times[one] == outcome.times[other] < NO_TIME for outcome in outcomes)
+    for before, behind in ((one, other), (other, one)):
+        assert any(outcome.predecessors[behind] == before for outcome in outcomes)
 
 
 def plate_example():
@@ -87,13 +107,15 @@ def plate_example():
             (1206, 8120, 310), (0, 0, 88), (4294967295, 65535, grid + SIDING - 1), (1207, 9000, grid + SIDING),
             (1208, 9000, 65535), (1209, ROW_LIMIT, 203), (1210, ROW_LIMIT + 1, 203), (1201, 640, 0)]
     data = b''.join(record(*row) for row in rows)
-    answers = {row[1:]: df(yard, row[2], row[1], ROOM).answer for row in rows if row[2] < grid}
+    outcomes = {row[1:]: df(yard, row[2], row[1], ROOM) for row in rows if row[2] < grid}
+    answers = {asked: outcome.answer for asked, outcome in outcomes.items()}
     for (length, _), (_, count, reached) in answers.items():
         # a page is entered four times or more on average, and a strip that each column takes reaches the whole grid
         assert count >= 4 * GRID_PAGES and (reached == grid) == (length <= COLUMN_LIMIT), answers
     # a decimetre more, and there are other ways
     assert answers[ROW_LIMIT, 203] != answers[ROW_LIMIT + 1, 203], answers
-    assert line(yard, record(*rows[4])) == 'coil 1205 refused 13\n'
+    check_turntable(outcomes.values())
+    assert line(yard, record(*rows[4])) == 'coil 1205 refused 12\n'
     assert line(yard, record(*rows[8])) == 'coil 1207 refused 6\n'
     data += data[:3]
     return yard, data, printed(yard, data)

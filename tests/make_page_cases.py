@@ -4,8 +4,8 @@
     python3 tests/make_page_cases.py --check    only compare them with what would be written; exit 1 on a difference
 
 The expected text comes from reader.py. Each case below also states the whole check's answer by hand, from document 01
-and document 02, C-11, and each good map the content that it was built from; the generator stops where reader.py says
-otherwise.
+and document 02, C-11 and C-15, and each good map the content that it was built from; the generator stops where
+reader.py says otherwise.
 """
 import random
 
@@ -184,7 +184,7 @@ def heading_cases():
 
 
 def page_cases():
-    """Refusals 8 to 14 in the table's order, each at its boundaries."""
+    """Refusals 8 to 14 in the table's order, each at its boundaries; where 13 stood, the times."""
     # 8, "unknown code", and its example "page `07`"
     on_page_0('8: page 07', (8, 0), b'\x07')
     on_page_0('8: code 04 behind a station', (8, 3), station(0), b'\x04')
@@ -206,6 +206,7 @@ def page_cases():
     case('9: a move cut off in its target', filled(3, 49, b'\x02\x34'), 'refused 9 page 0 offset 254')
     case('9: a move cut off before its time', filled(1, 50, b'\x02\x33\x00'), 'refused 9 page 0 offset 253')
     case('9: a move cut off in its time', filled(4, 48, b'\x02\x34\x00\x01'), 'refused 9 page 0 offset 252')
+    case('9: a move cut off, its time 0 so far', filled(4, 48, b'\x02\x34\x00\x00'), 'refused 9 page 0 offset 252')
 
     # 10, "not the next station, or one missing at `00`", and its example "S, page all zero: offset 0"
     on_page_0('10: S, page all zero', (10, 0))
@@ -225,6 +226,7 @@ def page_cases():
     # 11, "move before a station", and its example "page `02 00 00 01 00`"
     on_page_0('11: page 02 00 00 01 00', (11, 0), bytes.fromhex('02 00 00 01 00'))
     on_page_0('11: a good move, before its station', (11, 0), move(1, 4), station(0), station(1), n=2)
+    on_page_0('11: a move before a station, time 0', (11, 0), move(1, 0), station(0), n=2)
 
     # 12, "target not below N, own station, or not rising", and its example "S, page `01 00 00 02 00 00 01 00`"
     on_page_0('12: S, page 01 00 00 02 00 00 01 00', (12, 3), bytes.fromhex('01 00 00 02 00 00 01 00'))
@@ -237,15 +239,24 @@ def page_cases():
     on_page_0('12: the same target twice', (12, 8), station(0), move(1, 1), move(1, 2), station(1), n=2)
     on_page_0('12: targets fall', (12, 8), station(0), move(2, 1), move(1, 1), station(1), station(2), n=3)
     on_page_0('12: targets fall to 0', (12, 11), station(0), station(1), move(2, 1), move(0, 1), station(2), n=3)
+    on_page_0('12: target not below N, time 0', (12, 3), station(0), move(2, 0), station(1), n=2)
+    on_page_0('12: own station, time 0', (12, 3), station(0), move(0, 0), station(1), n=2)
+    on_page_0('12: not rising, time 0', (12, 8), station(0), move(1, 1), move(1, 0), station(1), n=2)
+    on_page_0('12: not rising behind a move of time 0', (12, 8), station(0), move(1, 0), move(1, 1), station(1), n=2)
     on_page_0('targets of the next station begin anew', None,
               station(0), move(2, 1), station(1), move(0, 1), move(2, 1), station(2), move(0, 1), n=3)
     case('targets 255, 256 and 511 of 512 stations',
          built([s // 80 for s in range(512)], {0: [(255, 1), (256, 1), (511, 1)], 256: [(0, 1), (257, 1)]}, 7), 'good')
 
-    # 13, "time 0", and its example "N 2, page `01 00 00 02 01 00 00 00`: offset 3"
-    on_page_0('13: N 2, page 01 00 00 02 01 00 00 00', (13, 3), bytes.fromhex('01 00 00 02 01 00 00 00'), n=2)
-    on_page_0('13: the second move has time 0', (13, 8),
-              station(0), move(1, 1), move(2, 0), station(1), station(2), n=3)
+    # "Time 0 is accepted in `02` and `03`, so 13 no longer occurs.", and the page of its example, "N 2, page `01 00 00
+    # 02 01 00 00 00`", is good if station 1 is on another page; if it is on this one, it is missing at the `00`
+    former = bytes.fromhex('01 00 00 02 01 00 00 00')
+    case('time 0: N 2, page 01 00 00 02 01 00 00 00', image([0, 1], page(former), page(station(1))), 'good')
+    on_page_0('10: N 2, page 01 00 00 02 01 00 00 00, and station 1 missing', (10, 8), former, n=2)
+    on_page_0('time 0 of the second move', None, station(0), move(1, 1), move(2, 0), station(1), station(2), n=3)
+    on_page_0('time 0 of both moves, and both ways', None,
+              station(0), move(1, 0), move(2, 0), station(1), move(0, 0), station(2), move(0, 0), n=3)
+    on_page_0('8: an unknown code behind a move of time 0', (8, 8), station(0), move(1, 0), b'\x07', n=2)
     on_page_0('time 65,535', None, station(0), move(1, 65535), station(1), n=2)
     on_page_0('time 1', None, station(0), move(1, 1), station(1), n=2)
     on_page_0('time 256, whose low byte is 0', None, station(0), move(1, 256), station(1), n=2)
@@ -258,7 +269,7 @@ def page_cases():
 
 
 def limit_cases():
-    """Command `03` of document 02, C-11: its limit, its end, and the rules that it shares with `02`."""
+    """Command `03` of document 02, C-11: its limit, its end, and the rules that it shares with `02`; C-15: time 0."""
     # "u16 longest strip in decimetres"; page_test's pages are read for a strip of 65,535
     for limit in (1, 2, 255, 256, 8119, 8120, 8121, 65534, 65535):
         on_page_0(f'limit {limit:,}', None, station(0), move(1, 1, limit), station(1), n=2)
@@ -269,6 +280,9 @@ def limit_cases():
     on_page_0('18: limit 0 behind a move with a limit', (18, 10),
               station(0), move(1, 1, 7), move(2, 1, 0), station(1), station(2), n=3)
     on_page_0('18: limit 0 of the last station', (18, 6), station(0), station(1), move(0, 65535, 0), n=2)
+    on_page_0('18: limit 0, time 0 too', (18, 3), station(0), move(1, 0, 0), station(1), n=2)
+    on_page_0('18: limit 0, time 0 too, behind a move of time 0', (18, 10),
+              station(0), move(1, 0, 9), move(2, 0, 0), station(1), station(2), n=3)
 
     # "(7 bytes)"
     case('the 00 is byte 255, behind 36 moves with a limit',
@@ -297,7 +311,13 @@ def limit_cases():
               station(0), move(2, 1, 9), move(1, 1), station(1), station(2), n=3)
     on_page_0('targets rise through 02 and 03 alike', None, station(0), move(1, 1, 9), move(2, 1), move(3, 1, 1),
               station(1), move(0, 1), move(2, 1, 65535), move(3, 1), station(2), station(3), n=4)
-    on_page_0('13: time 0, with a limit', (13, 3), station(0), move(1, 0, 9), station(1), n=2)
+    on_page_0('12: own station, time 0, with a limit', (12, 6), station(0), station(1), move(1, 0, 9), n=2)
+    # "Time 0 is accepted in `02` and `03`"
+    on_page_0('time 0, with a limit', None, station(0), move(1, 0, 9), station(1), n=2)
+    on_page_0('time 0 of the second move, with a limit', None,
+              station(0), move(1, 1, 9), move(2, 0, 9), station(1), station(2), n=3)
+    on_page_0('time 0 by 02 and 03 alike', None, station(0), move(1, 0, 1), move(2, 0), move(3, 0, 65535),
+              station(1), move(0, 0), move(2, 0, 256), station(2), station(3), move(0, 0, 255), n=4)
 
 
 def order_cases():
@@ -308,31 +328,24 @@ def order_cases():
          filled(3, 49, b'\x01\x09'), 'refused 9 page 0 offset 254')
     case('9 before 12: a move cut off, to its own station',
          filled(4, 48, b'\x02\x03\x00\x01'), 'refused 9 page 0 offset 252')
-    case('9 before 13: a move cut off, its time 0 so far',
-         filled(4, 48, b'\x02\x34\x00\x00'), 'refused 9 page 0 offset 252')
-    # "for `02`: 11, 12, 13"
+    # "for `02`: 11, 12, 13", of which 13 "no longer occurs"
     on_page_0('11 before 12: a move before a station, target not below N', (11, 0), move(9, 1), station(0))
-    on_page_0('11 before 13: a move before a station, time 0', (11, 0), move(1, 0), station(0), n=2)
-    on_page_0('11 before 12 and 13', (11, 0), move(9, 0), station(0))
-    on_page_0('12 before 13: target not below N, time 0', (12, 3), station(0), move(2, 0), station(1), n=2)
-    on_page_0('12 before 13: own station, time 0', (12, 3), station(0), move(0, 0), station(1), n=2)
-    on_page_0('12 before 13: not rising, time 0', (12, 8), station(0), move(1, 1), move(1, 0), station(1), n=2)
-    # the same for `03`, and 18 "tried after 13"
-    case('9 before 12, 13 and 18: a move with a limit cut off, to its own station, time 0 and limit 0 so far',
+    on_page_0('11 before 12: a move before a station, target not below N, time 0', (11, 0), move(9, 0), station(0))
+    # the same for `03`, and then 18, "tried after 13", so now after 12
+    case('9 before 12 and 18: a move with a limit cut off, to its own station, time 0 and limit 0 so far',
          filled(5, 47, move(4, 0, 0)[:6]), 'refused 9 page 0 offset 250')
-    on_page_0('11 before 12, 13 and 18', (11, 0), move(9, 0, 0), station(0))
+    on_page_0('11 before 12 and 18: target not below N, time 0, limit 0', (11, 0), move(9, 0, 0), station(0))
     on_page_0('11 before 18: a move before a station, limit 0', (11, 0), move(1, 1, 0), station(0), n=2)
-    on_page_0('12 before 13 and 18: not rising, time 0, limit 0', (12, 8),
+    on_page_0('12 before 18: not rising, time 0, limit 0', (12, 8),
               station(0), move(1, 1), move(1, 0, 0), station(1), n=2)
     on_page_0('12 before 18: own station, limit 0', (12, 3), station(0), move(0, 1, 0), station(1), n=2)
-    on_page_0('13 before 18: time 0, limit 0', (13, 3), station(0), move(1, 0, 0), station(1), n=2)
     # "for `00`: 10 if a station is still missing, then 14"
     on_page_0('10 before 14: a station missing and rubbish behind the 00', (10, 3), station(0), b'\x00', b'\x05', n=2)
     on_page_0('10 before 14: the missing station behind the 00', (10, 3), station(0), b'\x00', station(1), n=2)
     # "reading stops at the first command at fault"
-    on_page_0('the first command at fault: 13, then 8', (13, 3), station(0), move(1, 0), b'\x07', n=2)
+    on_page_0('the first command at fault: 12, then 8', (12, 3), station(0), move(0, 1), b'\x07', n=2)
     on_page_0('the first command at fault: 8, then 10', (8, 3), station(0), b'\x07', station(0), n=2)
-    on_page_0('the first command at fault: 18, then 13', (18, 3), station(0), move(1, 1, 0), move(2, 0), n=3)
+    on_page_0('the first command at fault: 18, then 12', (18, 3), station(0), move(1, 1, 0), move(1, 0), n=3)
 
 
 def map_cases():

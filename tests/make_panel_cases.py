@@ -11,8 +11,9 @@ import random
 import struct
 
 from limits import LONGEST_STRIP, random_limits, strips_about
-from make_search_cases import (C8, M7, M7_LIMITED, M7_PAGES, PRIME, S, STRIP, course_cases, damaged, large_cases,
-                               limit_cases, page_refusal_cases, random_change, random_map, refusal_cases,
+from make_search_cases import (C8, M7, M7_LIMITED, M7_PAGES, PRIME, S, STRIP, course_cases, damaged, handover_cases,
+                               handover_limit_cases, handover_map, handover_refusal_cases, large_cases, limit_cases,
+                               page_refusal_cases, random_change, random_map, refusal_cases,
                                refused_at_equal_time_cases, run_words, runs, spelled)
 from maps import image, page, station, u16, u32
 from panel import GREATEST_TIME, answers, check
@@ -139,11 +140,13 @@ def stated(wanted, n, stations):
 
 def taken_over_cases(cases):
     """Document 01's maps; every refusal, its page reached or not; which of two bad pages is refused; strips about the
-    limits; a full map."""
+    limits; a full map; moves of time 0, by which stations other than the source have time 0 (document 02, C-15)."""
     for part in (course_cases, refusal_cases, page_refusal_cases, limit_cases):
         part(TakenOver(cases))
     refused_at_equal_time_cases(TakenOver(cases, 'which of two bad pages is refused at equal time'))
     large_cases(TakenOver(cases, 'a full map with limits'))
+    for part in (handover_cases, handover_limit_cases, handover_refusal_cases):
+        part(TakenOver(cases))
 
 
 # Numbers that are no station of a small map; the low bytes of some are.
@@ -213,25 +216,39 @@ def chain_cases(cases):
     cases.add('the longest chain: N 2,048, times 65,535, every station', data, calls)
 
 
+def random_case(cases, rng, label, kind, limits):
+    """A good map of the kind, then damaged at one to three bytes; every station."""
+    data, first = kind(rng, limits)
+    last = count_of(data) + 1
+    strips = rng.sample(strips_about(limits), 2)
+    changes = dict(random_change(rng, data) for _ in range(rng.randint(1, 3)))
+    cases.add(label, data, [
+        *[Call(first, 0, last, strip=strip) for strip in strips],
+        Call(rng.randrange(last - 1), 0, last, strip=strips[0]),
+        Call(first, 0, last, changes=list(changes.items()), strip=strips[1]),
+        Call(rng.randrange(last - 1), 0, last, strip=strips[1])])
+
+
 def random_cases(cases):
     """20 good maps without limits and 20 with them, each then damaged at one to three bytes; every station."""
     rng = random.Random(12)
     for number in range(1, 41):
         limits = random_limits(rng) if number % 2 == 0 else []
-        data, first = random_map(rng, limits)
-        last = count_of(data) + 1
-        strips = rng.sample(strips_about(limits), 2)
-        changes = dict(random_change(rng, data) for _ in range(rng.randint(1, 3)))
-        cases.add(f'random map {number}{" with limits" if limits else ""}', data, [
-            *[Call(first, 0, last, strip=strip) for strip in strips],
-            Call(rng.randrange(last - 1), 0, last, strip=strips[0]),
-            Call(first, 0, last, changes=list(changes.items()), strip=strips[1]),
-            Call(rng.randrange(last - 1), 0, last, strip=strips[1])])
+        random_case(cases, rng, f'random map {number}{" with limits" if limits else ""}', random_map, limits)
+
+
+def random_handover_cases(cases):
+    """Three good maps without limits and three with them on which many moves take no time (document 02, C-15)."""
+    rng = random.Random(1512)
+    for number in range(1, 7):
+        limits = random_limits(rng) if number % 2 == 0 else []
+        label = f'random map {number} with time 0{" and limits" if limits else ""}'
+        random_case(cases, rng, label, handover_map, limits)
 
 
 def main():
     cases = Cases()
-    for part in (taken_over_cases, station_cases, strip_cases, random_cases, chain_cases):
+    for part in (taken_over_cases, station_cases, strip_cases, random_cases, random_handover_cases, chain_cases):
         part(cases)
     stream = b''.join(cases.stream)
     text = ''.join(line + '\n' for line in cases.lines).encode('ascii')

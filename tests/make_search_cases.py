@@ -4,21 +4,21 @@
     python3 tests/make_search_cases.py --check    only compare them with what would be written; exit 1 on a difference
 
 The expected text comes from searches.py. demands.py holds each outcome against what the documents promise, and any two
-for two lengths of the strip on one map from one source; where document 01 or document 02, C-11 or C-14, states an
+for two lengths of the strip on one map from one source; where document 01 or document 02, C-11, C-14 or C-15, states an
 answer, a list, times, moves or predecessors, the case below states them by hand. The generator stops where one of these
-says otherwise, and where no case needs a part of C-14's order (by_time.py).
+says otherwise, and where no case needs a part of C-14's order or of C-15 (variants.py).
 """
 import random
 from collections import Counter, namedtuple
 from itertools import combinations
 
-from by_time import NEEDED, differences
 from demands import check, check_lengths
 from limits import LONGEST_STRIP, random_limit, random_limits, strips_about
 from maps import image, move, page, station, u16, u32
 from reader import PAGE
 from searches import NO_TIME, df, plain
 from stored import ROOT, keep
+from variants import NEEDED, differences
 
 FOLDER = ROOT / 'crates' / 'search_test'
 
@@ -143,7 +143,7 @@ class Cases:
     def __init__(self):
         self.searches, self.stream, self.lines = 0, [], []
         self.rng = random.Random(240)  # the bytes of unlisted pages in second images
-        self.needs = Counter()  # how many calls need which part of C-14's order, and for what
+        self.needs = Counter()  # how many calls need which part of C-14's order or of C-15, and for what
 
     def add(self, label, data, calls):
         text = label.encode('ascii')
@@ -337,15 +337,16 @@ def faults():
         ('12: not rising', (12, 8), [1], page(station(1), move(2, 1), move(2, 1))),
         ('12: the same target by 02 and 03', (12, 8), [1], page(station(1), move(2, 1), move(2, 1, 1))),
         ('12: the same target by 03 and 02', (12, 10), [1], page(station(1), move(2, 1, 1), move(2, 1))),
-        ('13: time 0', (13, 3), [1], page(station(1), move(2, 0))),
-        ('13: time 0, with a limit', (13, 3), [1], page(station(1), move(2, 0, 1))),
+        ('12: own station, time 0', (12, 3), [1], page(station(1), move(1, 0))),
+        ('12: not rising, time 0', (12, 10), [1], page(station(1), move(2, 0, 1), move(2, 0))),
         ('14: byte not 00 after the end', (14, 3), [1], page(station(1), b'\x00\x05')),
         ('14: the last byte of the page', (14, 3), [1], page(station(1), bytes(252), b'\x01')),
-        ('18: limit 0', (18, 3), [1], page(station(1), move(2, 1, 0)))]
+        ('18: limit 0', (18, 3), [1], page(station(1), move(2, 1, 0))),
+        ('18: limit 0, time 0 too', (18, 3), [1], page(station(1), move(2, 0, 0)))]
 
 
 def page_refusal_cases(cases):
-    """Rows 8 to 14, and 18, on a page that is reached, and on one that is not.
+    """Rows 8 to 12, 14 and 18 on a page that is reached, and on one that is not.
 
     Station 0 is on page 0, station 1 on page 1 with the fault, station 2 on page 2. The moves are 0-1/1 and 2-0/1, or
     0-2/1 and 2-0/1 where the fault is not to be reached.
@@ -473,19 +474,23 @@ def fresh_cases(cases):
             Call(0, (13, 17, 14, 15, 16))])
 
 
-def refused_at_equal_time_cases(cases):
-    """Which of the bad pages is refused whose stations have the same time (document 02, C-14)."""
-    # From 0, station 2 is reached in time 5 by two moves and station 3 by one; from 4 both by one. Their pages are bad,
-    # by 8 and by 10.
+def two_bad_pages(cases, when, moves):
+    """Which of two bad pages is refused, at one time. From 0, station 2 is reached by two moves and station 3 by one;
+    from 4 both by one. Their pages are bad, by 8 and by 10."""
     for label, directory in [('the lower number on the lower page', [0, 0, 1, 2, 3]),
                              ('the lower number on the higher page', [0, 0, 2, 1, 3])]:
         of_2, of_3 = directory[2], directory[3]
-        tied = drawn(directory, '0-1/2 1-2/3 0-3/5 4-2/5 4-3/5')
+        tied = drawn(directory, moves)
         bad = damaged(tied, (page_begins(tied, of_2), 7), (page_begins(tied, of_3), 0))
-        cases.add('which of two bad pages is refused at equal time: fewest moves, then lowest number; ' + label, bad, [
+        cases.add(f'which of two bad pages is refused {when}: fewest moves, then lowest number; {label}', bad, [
             Call(0, answer=f'refused 10, page {of_3}, offset 0', list=f'0 {of_3}', plain_list=f'0 0 {of_3}'),
             Call(4, answer=f'refused 8, page {of_2}, offset 0, count 2', list=f'3 {of_2}', plain_list=f'3 {of_2}'),
             Call(0, (6, 10, 7, 8, 9)), Call(4, (6, 10, 7, 8, 9))])
+
+
+def refused_at_equal_time_cases(cases):
+    """Which of the bad pages is refused whose stations have the same time (document 02, C-14)."""
+    two_bad_pages(cases, 'at equal time', '0-1/2 1-2/3 0-3/5 4-2/5 4-3/5')
     rng = random.Random(14)
     for number in range(1, 11):
         data, row, first = tied_pages_map(rng)
@@ -755,32 +760,44 @@ def fitted(rng, directory, pages, wanted, time, limits):
     return spelled(directory, {u: leaving.values() for u, leaving in moves.items()}, pages)
 
 
-def rising_map(rng, limits=()):
+def rising_map(rng, limits=(), level=False):
     """A good map on which every move takes the difference of two heights, and so every way to a station the same time;
     and its lowest station. On a page one station leads to the next; to other pages it is often further, and so pages
-    that were worked through get fewer moves from others."""
+    that were worked through get fewer moves from others. A map with level parts also has stations of one height that
+    lead to each other, on one page or on two: these moves take no time."""
     n, pages = rng.choice([(rng.randint(8, 20), rng.randint(2, 6)), (rng.randint(80, 100), 8)])
     directory = random_directory(rng, n, pages)
     order = rng.sample(range(n), n)
+    least, steps = 1, [0, 1, 1, 2]
+    if level:
+        least, steps = 0, rng.choice([[0, 0, 0, 1, 2], [0] * 9 + [3], [0] * 30 + [1]])
     height = {order[0]: 0}
     for below, s in zip(order, order[1:]):
-        height[s] = max(1, height[below] + rng.choice([0, 1, 1, 2]))
+        height[s] = max(least, height[below] + rng.choice(steps))
     own = [[s for s in order if directory[s] == p] for p in range(pages)]
     wanted = [pair for stations in own for pair in zip(stations, stations[1:])]
     wanted += [(order[rng.randrange(k)], order[k]) for k in range(1, n) for _ in range(2)]
-    rising = [(u, v) for u, v in wanted if height[u] < height[v]]
+    if level:
+        wanted = [pair for u, v in wanted for pair in ((u, v), (v, u))]
+    rising = [(u, v) for u, v in wanted if height[v] - height[u] >= least]
     return fitted(rng, directory, pages, rising, lambda u, v: height[v] - height[u], limits), order[0]
 
 
-# What moves take on maps on which many ways tie.
+# What moves take on maps on which many ways tie, and on those of them on which many moves take no time.
 SMALL_TIMES = [(1,), (1, 2), (1, 2, 3), (1, 2, 3)]
+HANDOVER_TIMES = [(0,), (0, 1), (0, 0, 0, 5)]
 
 
-def tying_map(rng, limits=()):
+def tying_map(rng, limits=(), times=SMALL_TIMES, level=False):
     """A good map on which many ways tie: one of small times, or one that rises."""
     if rng.random() < 0.5:
-        return random_map(rng, limits, rng.choice(SMALL_TIMES))
-    return rising_map(rng, limits)
+        return random_map(rng, limits, rng.choice(times))
+    return rising_map(rng, limits, level)
+
+
+def handover_map(rng, limits=()):
+    """A good map on which many moves take no time, some of them in cycles (document 02, C-15)."""
+    return tying_map(rng, limits, HANDOVER_TIMES, level=True)
 
 
 def random_change(rng, data):
@@ -807,21 +824,40 @@ def random_bad_pages(rng, data, source):
     return [(page_begins(data, p), rng.choice(BAD_BEGINNINGS)) for p in rng.sample(pages, (len(pages) + 1) // 2)]
 
 
+def random_case(cases, rng, number, label, kind, bad_pages):
+    """A good map of the kind, then damaged at one to three bytes; or half of its pages are made bad instead."""
+    data, first = kind(rng)
+    n = int.from_bytes(data[:2], 'little')
+    roomy = roomy_tables(rng, n, number)
+    changes = dict(random_change(rng, data) for _ in range(rng.randint(1, 3)))
+    if bad_pages:
+        changes = dict(random_bad_pages(rng, data, first))
+    cases.add(label, data, [
+        Call(first, answer='accepted'), Call(rng.randrange(n), roomy, answer='accepted'),
+        Call(first, roomy, changes=list(changes.items()))])
+
+
 def random_cases(cases):
     """Some 150 good maps, each then damaged at one to three bytes. On the last 30 many ways tie, and on every other of
     these half of the pages are made bad instead."""
     rng = random.Random(7763)
     for number in range(1, 156):
         ties = number > 125
-        data, first = tying_map(rng) if ties else random_map(rng)
-        n = int.from_bytes(data[:2], 'little')
-        roomy = roomy_tables(rng, n, number)
-        changes = dict(random_change(rng, data) for _ in range(rng.randint(1, 3)))
-        if ties and number % 2:
-            changes = dict(random_bad_pages(rng, data, first))
-        cases.add(f'random map {number}', data, [
-            Call(first, answer='accepted'), Call(rng.randrange(n), roomy, answer='accepted'),
-            Call(first, roomy, changes=list(changes.items()))])
+        random_case(cases, rng, number, f'random map {number}', tying_map if ties else random_map, ties and number % 2)
+
+
+def random_limit_case(cases, rng, number, label, kind, lengths):
+    """A good map of the kind with limits, for so many lengths of every kind, and then damaged at one to three bytes."""
+    limits = random_limits(rng)
+    data, first = kind(rng, limits)
+    n = int.from_bytes(data[:2], 'little')
+    roomy = roomy_tables(rng, n, number)
+    strips = rng.sample(strips_about(limits), lengths)
+    changes = dict(random_change(rng, data) for _ in range(rng.randint(1, 3)))
+    cases.add(label, data, [
+        *[Call(first, strip=strip, answer='accepted') for strip in strips],
+        Call(rng.randrange(n), roomy, strip=rng.choice(strips), answer='accepted'),
+        Call(first, roomy, changes=list(changes.items()), strip=strips[0]), Call(first, roomy, strip=strips[1])])
 
 
 def random_limit_cases(cases):
@@ -830,23 +866,190 @@ def random_limit_cases(cases):
     rng = random.Random(8121)
     for number in range(1, 61):
         ties = number > 45
-        limits = random_limits(rng)
-        data, first = (tying_map if ties else random_map)(rng, limits)
-        n = int.from_bytes(data[:2], 'little')
-        roomy = roomy_tables(rng, n, number)
-        strips = rng.sample(strips_about(limits), 2 if ties else 4)
-        changes = dict(random_change(rng, data) for _ in range(rng.randint(1, 3)))
-        cases.add(f'random map {number} with limits', data, [
-            *[Call(first, strip=strip, answer='accepted') for strip in strips],
-            Call(rng.randrange(n), roomy, strip=rng.choice(strips), answer='accepted'),
-            Call(first, roomy, changes=list(changes.items()), strip=strips[0]), Call(first, roomy, strip=strips[1])])
+        random_limit_case(cases, rng, number, f'random map {number} with limits', tying_map if ties else random_map,
+                          2 if ties else 4)
+
+
+# "A turntable stop has two station numbers and nothing moves between them."
+TURNTABLE = '0-1/0 1-0/0'
+
+
+def handover_cases(cases):
+    """Two stations with moves of time 0 both ways, and single moves of time 0 (document 02, C-15)."""
+    # "Time 0 is accepted in `02` and `03`, so 13 no longer occurs."
+    cases.add('time 0 is accepted', drawn([0, 1, 2], '0-1/1 1-2/0 2-0/1'), [
+        Call(0, answer='accepted, count 3, reached 3', times='0 1 1', moves='0 1 2', predecessors='65534 0 1',
+             list='0 1 2', plain_list='0 1 2'),
+        *from_all(3, (3, 7, 4, 5, 6))])
+    cases.add('a turntable on one page, from either number', drawn([0, 0], TURNTABLE), [
+        Call(0, times='0 0', moves='0 1', predecessors='65534 0', list='0', plain_list='0 0'),
+        Call(1, times='0 0', moves='1 0', predecessors='1 65534', list='0', plain_list='0 0'),
+        *from_all(2, (4, 5, 3, 2, 6))])
+    cases.add('a turntable on two pages, from either number', drawn([0, 1], TURNTABLE), [
+        Call(0, times='0 0', moves='0 1', predecessors='65534 0', list='0 1', plain_list='0 1'),
+        Call(1, times='0 0', moves='1 0', predecessors='1 65534', list='1 0', plain_list='1 0'),
+        *from_all(2, (4, 5, 3, 2, 6))])
+    # by time alone 0 and 1 would be each other's predecessors, and neither's chain would end at 2
+    cases.add('a turntable entered at both its numbers', drawn([0, 1, 2], TURNTABLE + ' 2-0/4 2-1/4'), [
+        Call(2, times='4 4 0', moves='1 1 0', predecessors='2 2 65534', list='2 0 1', plain_list='2 0 1'),
+        Call(0, times=f'0 0 {NO_TIME}', moves='0 1 65535', predecessors='65534 0 65535', list='0 1')])
+    cases.add('a turntable on one page entered at both its numbers', drawn([0, 0, 1], TURNTABLE + ' 2-0/4 2-1/4'), [
+        Call(2, times='4 4 0', moves='1 1 0', predecessors='2 2 65534', list='1 0', plain_list='1 0 0')])
+    cases.add('a turntable entered at its higher number', drawn([0, 1, 2], TURNTABLE + ' 2-1/4'), [
+        Call(2, times='4 4 0', moves='2 1 0', predecessors='1 2 65534', list='2 1 0', plain_list='2 1 0')])
+    cases.add('a turntable on the page of the station that leads to it', drawn([0] * 3, TURNTABLE + ' 2-1/4'), [
+        Call(2, times='4 4 0', moves='2 1 0', predecessors='1 2 65534', list='0', plain_list='0 0 0'),
+        *from_all(3, (3, 7, 4, 5, 6))])
+    cases.add('the lowest of two stations that give both numbers, in no time', drawn(
+        [0, 1, 0, 1], '3-0/1 3-1/1 0-2/0 1-2/0 2-0/0 2-1/0'), [
+            Call(3, times='1 1 1 0', moves='1 1 2 0', predecessors='3 3 0 65534', list='1 0', plain_list='1 0 1 0'),
+            *from_all(4, (4, 8, 5, 6, 7))])
+    # "Less means less time, then fewer moves"
+    cases.add('less time by two moves that take none', drawn([0, 1, 0], '0-2/1 0-1/0 1-2/0'), [
+        Call(0, times='0 0 0', moves='0 1 2', predecessors='65534 0 1', list='0 1 0', plain_list='0 1 0')])
+    cases.add('a move that takes no time is one more at equal time', drawn([0, 1, 0], '0-2/3 0-1/3 1-2/0'), [
+        Call(0, times='0 3 3', moves='0 1 1', predecessors='65534 0 0', list='0 1', plain_list='0 1 0')])
+
+
+def handover_cycle_cases(cases):
+    """"The page list rule includes cycles of such moves, and every predecessor chain still ends at the source."
+    (document 02, C-15), the source in such a cycle or outside."""
+    cases.add('a cycle of time 0 through three pages', drawn([0, 1, 2, 3], '0-1/0 1-2/0 2-0/0 3-1/6'), [
+        Call(0, times=f'0 0 0 {NO_TIME}', moves='0 1 2 65535', predecessors='65534 0 1 65535', list='0 1 2'),
+        Call(1, times=f'0 0 0 {NO_TIME}', moves='2 0 1 65535', predecessors='2 65534 1 65535', list='1 2 0'),
+        Call(2, times=f'0 0 0 {NO_TIME}', moves='1 2 0 65535', predecessors='2 0 65534 65535', list='2 0 1'),
+        Call(3, times='6 6 6 0', moves='3 1 2 0', predecessors='2 3 1 65534', list='3 1 2 0', plain_list='3 1 2 0'),
+        *from_all(4, (5, 9, 6, 7, 8))])
+    cases.add('a cycle of time 0 through three pages, both ways', drawn(
+        [0, 1, 2, 3], '0-1/0 0-2/0 1-0/0 1-2/0 2-0/0 2-1/0 3-1/6'), [
+            Call(0, times=f'0 0 0 {NO_TIME}', moves='0 1 1 65535', predecessors='65534 0 0 65535', list='0 1 2'),
+            Call(2, times=f'0 0 0 {NO_TIME}', moves='1 1 0 65535', predecessors='2 2 65534 65535', list='2 0 1'),
+            Call(3, times='6 6 6 0', moves='2 1 2 0', predecessors='1 3 1 65534', list='3 1 0 2',
+                 plain_list='3 1 0 2')])
+    cases.add('a cycle of time 0 that passes each of three pages twice', drawn(
+        [0, 1, 2, 0, 1, 2, 3], '0-1/0 1-2/0 2-3/0 3-4/0 4-5/0 5-0/0 6-0/2 6-3/2'), [
+            Call(0, times=f'0 0 0 0 0 0 {NO_TIME}', moves='0 1 2 3 4 5 65535', predecessors='65534 0 1 2 3 4 65535',
+                 list='0 1 2 0 1 2', plain_list='0 1 2 0 1 2'),
+            Call(4, moves='2 3 4 5 0 1 65535', predecessors='5 0 1 2 65534 4 65535', list='1 2 0 1 2 0'),
+            Call(6, times='2 2 2 2 2 2 0', moves='1 2 3 1 2 3 0', predecessors='6 0 1 6 3 4 65534', list='3 0 1 2',
+                 plain_list='3 0 0 1 1 2 2')])
+    cases.add('all moves between 8 stations, each of time 0', spelled(
+        [0, 0, 0, 0, 1, 1, 1, 1], {s: [(t, 0) for t in range(8) if t != s] for s in range(8)}, 2), [
+            Call(0, times='0 0 0 0 0 0 0 0', moves='0 1 1 1 1 1 1 1', predecessors='65534 0 0 0 0 0 0 0', list='0 1',
+                 plain_list='0 0 0 0 1 1 1 1'),
+            Call(5, times='0 0 0 0 0 0 0 0', moves='1 1 1 1 1 0 1 1', predecessors='5 5 5 5 5 65534 5 5', list='1 0',
+                 plain_list='1 0 0 0 0 1 1 1'),
+            *from_all(8, (8, 12, 9, 10, 11))])
+    # the lowest neighbour that is nearer to 0 is the one above, or in the first row the one to the left
+    places = [(s % 6, s // 6) for s in range(36)]
+    cases.add('a grid of 6 by 6 in four pages, all moves of time 0', spelled(
+        [x // 3 + 2 * (y // 3) for x, y in places], grid_moves(6, [(1, 0, 0), (-1, 0, 0), (0, 1, 0), (0, -1, 0)]), 4), [
+            Call(0, times=number_words([0] * 36), moves=number_words(x + y for x, y in places),
+                 predecessors=number_words([65534, *[s - 6 if s >= 6 else s - 1 for s in range(1, 36)]])),
+            *[Call(s, (36, 40, 37, 38, 39)) for s in (0, 14, 35)]])
+
+
+def handover_limit_cases(cases):
+    """Command `03` with time 0, open and closed (document 02, C-11 and C-15)."""
+    cases.add('a turntable for strips of up to 100', drawn([0, 1], '0-1/0/100 1-0/0/100'), [
+        *[Call(0, strip=strip, times='0 0', moves='0 1', predecessors='65534 0', list='0 1')
+          for strip in (0, 1, 99, 100)],
+        *[Call(0, strip=strip, times=f'0 {NO_TIME}', moves='0 65535', predecessors='65534 65535', list='0')
+          for strip in (101, LONGEST_STRIP)],
+        Call(1, strip=100, times='0 0', predecessors='1 65534', list='1 0'), Call(1, strip=101, list='1')])
+    cases.add('a turntable for strips of up to 100, and a way around it', drawn(
+        [0, 1, 2], '0-1/0/100 1-0/0/100 0-2/3 2-1/4'), [
+            Call(0, strip=100, times='0 0 3', moves='0 1 1', predecessors='65534 0 0', list='0 1 2'),
+            Call(0, strip=101, times='0 7 3', moves='0 2 1', predecessors='65534 2 0', list='0 2 1')])
+    cases.add('a cycle of time 0 that longer strips enter elsewhere', drawn(
+        [0, 1, 2, 3], '0-1/0 1-2/0 2-0/0 3-0/0/200 3-2/5'), [
+            Call(3, strip=200, times='0 0 0 0', moves='1 2 3 0', predecessors='3 0 1 65534', list='3 0 1 2'),
+            Call(3, strip=201, times='5 5 5 0', moves='2 3 1 0', predecessors='2 0 3 65534', list='3 2 0 1')])
+
+
+def handover_refusal_cases(cases):
+    """Bad pages that are reached in no time (document 02, C-14 and C-15)."""
+    two_bad_pages(cases, 'in no time', '0-1/0 1-2/0 0-3/0 4-2/0 4-3/0')
+    sooner = drawn([0, 0, 1, 2], '0-1/0 1-2/0 0-3/1')
+    cases.add('which of two bad pages is refused: no time by two moves, before time 1 by one', sooner, [
+        Call(0, changes=[(page_begins(sooner, p), 7) for p in (1, 2)], answer='refused 8, page 1, offset 0',
+             list='0 1', plain_list='0 0 1')])
+    cycle = drawn([0, 1, 2], '0-1/0 1-2/0 2-0/0')
+    cases.add('a cycle of time 0 through a bad page', damaged(cycle, (page_begins(cycle, 2), 7)), [
+        Call(0, answer='refused 8, page 2, offset 0, count 3', list='0 1 2', plain_list='0 1 2'),
+        Call(1, answer='refused 8, page 2, offset 0, count 2', list='1 2', plain_list='1 2'),
+        Call(2, answer='refused 8, page 2, offset 0, count 1', list='2', plain_list='2'),
+        *from_all(3, (3, 7, 4, 5, 6))])
+    behind = drawn([0, 1], '0-1/0/100')
+    cases.add('a bad page behind a move of time 0 and a limit of 100', behind, [
+        Call(0, strip=100, changes=[(page_begins(behind, 1), 7)], answer='refused 8, page 1, offset 0, count 2'),
+        Call(0, strip=101, answer='accepted, count 1, reached 1')])
+
+
+def handover_page_cases(cases):
+    """Stations that get fewer moves in no time after their page was worked through (document 02, C-15)."""
+    # From 0, page 0 is worked through: 4 and 5 are reached by four moves. Then 6 reaches 4 by two, and 4 reaches 5.
+    cases.add('a station worked through gets fewer moves in no time', drawn(
+        [0, 0, 0, 0, 0, 0, 1], '0-1/0 1-2/0 2-3/0 3-4/0 3-5/0 4-5/0 0-6/0 6-4/0'), [
+            Call(0, times='0 0 0 0 0 0 0', moves='0 1 2 3 2 3 1', predecessors='65534 0 1 2 6 4 0', list='0 1 0',
+                 plain_list='0 0 1 0 0 0 0'),
+            Call(0, (7, 11, 8, 9, 10)), Call(2)])
+    # page 0 is a row, 0 4 5 1 6 7 2 8 9 3; 10, 11 and 12 lead past two stations of it, to 1, 2 and 3, one by one
+    cases.add('a page fetched again and again for fewer moves in no time', drawn(
+        [0] * 10 + [1, 2, 3], '0-4/0 4-5/0 5-1/0 1-6/0 6-7/0 7-2/0 2-8/0 8-9/0 9-3/0 '
+        '0-10/0 10-1/0 1-11/0 11-2/0 2-12/0 12-3/0'), [
+            Call(0, times='0 0 0 0 0 0 0 0 0 0 0 0 0', moves='0 2 4 6 1 2 3 4 5 6 1 3 5',
+                 predecessors='65534 10 11 12 0 4 1 6 2 8 0 1 2', list='0 1 0 2 0 3 0',
+                 plain_list='0 0 1 0 0 0 2 0 0 0 3 0 0'),
+            Call(0, (13, 17, 14, 15, 16))])
+
+
+def handover_chain_cases(cases):
+    """A chain of 2,048 stations by moves of time 0, then closed to a cycle, then with a jump (document 02, C-15)."""
+    n = 2048
+    turn = [s % 240 for s in range(n)]
+    data = spelled(turn, {s: [(s + 1, 0)] for s in range(n - 1)}, 240)
+    none = number_words([0] * n)
+
+    def more(s, target):
+        """Behind the moves of the last station of its page, one more. Stations have 8 bytes, but for the last of all,
+        which has no move yet."""
+        at = page_begins(data, turn[s]) + 8 * turn.count(turn[s]) - (5 if s == n - 1 else 0)
+        return list(zip(range(at, at + 5), move(target, 0)))
+
+    cases.add('the longest chain in no time: N 2,048 on 240 pages, times 0', data, [
+        Call(0, ROOMY, answer='accepted, count 2048, reached 2048', times=none, moves=number_words(range(n)),
+             predecessors=number_words([65534, *range(n - 1)])),
+        Call(2047, answer='accepted, count 1, reached 1'),
+        # 2047-0: the source keeps 65,534
+        Call(0, changes=more(2047, 0), answer='accepted, count 2048, reached 2048', times=none,
+             moves=number_words(range(n)), predecessors=number_words([65534, *range(n - 1)])),
+        Call(1000, answer='accepted, count 2048, reached 2048', times=none,
+             moves=number_words([(s - 1000) % n for s in range(n)]),
+             predecessors=number_words([65534 if s == 1000 else (s - 1) % n for s in range(n)])),
+        # 2000-2002: from there on a move fewer
+        Call(0, ROOMY, changes=more(2000, 2002), answer='accepted, count 2048, reached 2048', times=none,
+             moves=number_words([*range(2002), *range(2001, n - 1)]),
+             predecessors=number_words([65534, *range(2001), 2000, *range(2002, n - 1)]))])
+
+
+def random_handover_cases(cases):
+    """25 good maps on which many moves take no time and 15 with limits too, each then damaged at one to three bytes; on
+    every third of the 25 half of the pages are made bad instead (document 02, C-15)."""
+    rng = random.Random(15)
+    for number in range(1, 26):
+        random_case(cases, rng, number, f'random map {number} with time 0', handover_map, number % 3 == 0)
+    for number in range(1, 16):
+        random_limit_case(cases, rng, number, f'random map {number} with time 0 and limits', handover_map, 2)
 
 
 def main():
     cases = Cases()
     for part in (course_cases, refusal_cases, page_refusal_cases, tie_cases, moves_cases, fresh_cases,
                  refused_at_equal_time_cases, many_ties_cases, page_again_cases, limit_cases, long_chain_cases,
-                 tied_chain_cases, large_cases, random_cases, random_limit_cases):
+                 tied_chain_cases, large_cases, random_cases, random_limit_cases, handover_cases, handover_cycle_cases,
+                 handover_limit_cases, handover_refusal_cases, handover_page_cases, handover_chain_cases,
+                 random_handover_cases):
         part(cases)
     cases.check_needs()
     stream = b''.join(cases.stream)

@@ -1,12 +1,12 @@
 """An independent reader of map images, written from document 01 ("Map image" and "What is turned down") and from
-document 02, C-11.
+document 02, C-11 and C-15.
 
     parse(image)                        -> ('good', n, directory, pages) or a refusal 1 to 5
     whole_check(image)                  -> ('good',) or a refusal
     read_page(n, directory, p, page)    -> ('good', [(station, moves), ..]) or ('bad', number, offset)
 
 A move is (target, time, limit), its limit None for `02`. A refusal is ('refused', number) for 1 to 4, ('refused', 5,
-station), and ('refused', number, page, offset) for 8 to 14 and 18.
+station), and ('refused', number, page, offset) for 8 to 12, 14 and 18.
 """
 
 PAGE = 256
@@ -65,10 +65,9 @@ def read_page(n, directory, p, page):
             station, moves = content[-1]  # "It belongs to the latest station."
             if target >= n or target == station or (moves and target <= moves[-1][0]):
                 return ('bad', 12, at)  # target not below N, own station, or not rising
-            if time == 0:
-                return ('bad', 13, at)  # time 0
+            # "Time 0 is accepted in `02` and `03`, so 13 no longer occurs.", and 18 is tried after 12
             if limit == 0:
-                return ('bad', 18, at)  # "It refuses a limit of 0 with 18, tried after 13."
+                return ('bad', 18, at)  # "It refuses a limit of 0 with 18"
             moves.append((target, time, limit))
         else:
             if missing:

@@ -1,5 +1,5 @@
-"""The plain search (Dijkstra's) and the DF search, written from document 01, "The two searches", and document 02, C-11
-and C-14.
+"""The plain search (Dijkstra's) and the DF search, written from document 01, "The two searches", and document 02, C-11,
+C-14 and C-15.
 
     plain(image, source, strip, lengths)    -> Outcome
     df(image, source, strip, lengths)       -> Outcome
@@ -49,6 +49,10 @@ class Search:
         """What is compared of a way. "Less means less time, then fewer moves", and so Python compares pairs."""
         return way
 
+    def with_move(self, way, time):
+        """The way and a move behind it. One of time 0 is a move too, and so every move makes a way more."""
+        return way[0] + time, way[1] + 1
+
     def least(self, stations):
         """The station of least time, then fewest moves, then lowest number."""
         return min(stations, key=lambda s: (self.rank(self.way[s]), s))
@@ -64,8 +68,7 @@ class Search:
         return self.contents[p]
 
     def relax(self, u, v, time):
-        before, moves = self.way[u]
-        total = before + time, moves + 1
+        total = self.with_move(self.way[u], time)
         # "If v has no time, or sum is less, v gets sum and predecessor u, and v is not fresh."
         if v not in self.way or self.rank(total) < self.rank(self.way[v]):
             self.way[v], self.predecessor[v] = total, u
@@ -73,7 +76,8 @@ class Search:
             if v not in self.settled:
                 self.open.add(v)
         # "If sum equals v's time and u is below v's predecessor, only the predecessor becomes u", but "Two ways are now
-        # equal only if time and number of moves agree."
+        # equal only if time and number of moves agree.": no sum equals the source's way, which is of no move, and so it
+        # keeps 65,534
         elif self.rank(total) == self.rank(self.way[v]) and u < self.predecessor[v]:
             self.predecessor[v] = u
 

@@ -1,6 +1,7 @@
 //! The examples that document 01 prints with their answers: the table of refusals, course cases C1 to C10 and the
-//! bounds named beside them; and what document 02 says of limits, the panel and the number of moves, on these maps and
-//! on maps made for it. They are held against the reference as well as the engine, so that both hang on the paper.
+//! bounds named beside them; and what document 02 says of limits, the panel, the number of moves and moves of time 0,
+//! on these maps and on maps made for it. They are held against the reference as well as the engine, so that both hang
+//! on the paper.
 
 use outside::maps::Map;
 use outside::reference::lists::one_page_reads;
@@ -49,7 +50,8 @@ pub fn compare() -> Result<usize, String> {
     for (name, calls) in [("reference", REFERENCE), ("engine", ENGINE)] {
         let document_01 = [headings(&calls), pages(&calls), course(&calls), routes(&calls), bounds(&calls)];
         let document_02 = [limits(&calls), panel(&calls), fewer_moves(&calls), tables(&calls)];
-        let examples: Vec<_> = document_01.into_iter().chain(document_02).flatten().collect();
+        let without_time = [turntables(&calls), cycles(&calls), fewer_handovers(&calls)];
+        let examples: Vec<_> = document_01.into_iter().chain(document_02).chain(without_time).flatten().collect();
         if let Some((example, _)) = examples.iter().find(|(_, holds)| !holds) {
             return Err(format!("{name}: {example}"));
         }
@@ -62,6 +64,10 @@ type Examples = Vec<(&'static str, bool)>;
 
 fn refused(refusal: u32, place: u32, offset: u32) -> Answer {
     Answer { place, offset, ..Answer::refused(refusal) }
+}
+
+fn accepted(count: u32, reached: u32) -> Answer {
+    Answer { count, reached, ..Answer::default() }
 }
 
 /// The map of heading, directory and page beginnings; the rest of each page is zeros.
@@ -105,9 +111,12 @@ fn list_of_none(calls: &Calls, image: &[u8]) -> Answer {
     (calls.search)(Search::Df, image, from(0), tables)
 }
 
+/// "Time 0 is accepted in `02` and `03`, so 13 no longer occurs": its example is now refused for the station that the
+/// page lacks, and good with it.
 fn pages(calls: &Calls) -> Examples {
     let check = |image: Vec<u8>, wanted| (calls.check)(&image) == wanted;
     let one = |page: &[u8]| map(1, &[0], &[page]);
+    let two = |page: &[u8]| map(2, &[0, 0], &[page]);
     let mut stations = Vec::new();
     for number in 0..86 {
         stations.extend([1, number, 0]);
@@ -119,7 +128,8 @@ fn pages(calls: &Calls) -> Examples {
         ("10", check(one(&[]), refused(10, 0, 0))),
         ("11", check(one(&[2, 0, 0, 1, 0]), refused(11, 0, 0))),
         ("12", check(one(&[1, 0, 0, 2, 0, 0, 1, 0]), refused(12, 0, 3))),
-        ("13", check(map(2, &[0, 0], &[&[1, 0, 0, 2, 1, 0, 0, 0]]), refused(13, 0, 3))),
+        ("13's example, now 10", check(two(&[1, 0, 0, 2, 1, 0, 0, 0]), refused(10, 0, 8))),
+        ("13's example and station 1", check(two(&[1, 0, 0, 2, 1, 0, 0, 0, 1, 1, 0]), Answer::default())),
         ("14", check(one(&[1, 0, 0, 0, 5]), refused(14, 0, 3))),
     ]
 }
@@ -172,7 +182,6 @@ fn course(calls: &Calls) -> Examples {
     let spoiled = run(Search::Df, &spoiled_m7(), 0);
     let apart = map(2, &[0, 1], &[&[1, 0, 0, 0], &[7]]);
     let (far, near) = (run(Search::Df, &apart, 0), run(Search::Df, &apart, 1));
-    let accepted = |count, reached| Answer { count, reached, ..Answer::default() };
     vec![
         ("C1 times", df.times == [0, 4, 3, 6, 2, 8, 9] && plain.times == df.times),
         ("C1 predecessors", df.preds == [65534, 0, 4, 2, 0, 4, 5] && plain.preds == df.preds),
@@ -207,18 +216,24 @@ fn full(moves: &[(usize, usize, u16)]) -> Vec<u8> {
     drawn(240, (0..2048).map(|station| (station % 240) as u8).collect(), moves)
 }
 
-/// N 2,048 and 2,049; P 240 and 241; times 65,535 (and 0, which is the example of 13).
+/// From each station of such a map to the next, in one time.
+fn chain(time: u16) -> Vec<(usize, usize, u16)> {
+    (0..2047).map(|station| (station, station + 1, time)).collect()
+}
+
+/// N 2,048 and 2,049; P 240 and 241; times 65,535 and 0.
 fn bounds(calls: &Calls) -> Examples {
     let check = |image: &[u8], wanted| (calls.check)(image) == wanted;
-    let full = full(&[(0, 1, 65535), (1, 2047, 65535)]);
+    let [full, still] = [65_535, 0].map(|time| full(&[(0, 1, time), (1, 2047, time)]));
     let too_many = [2049u16.to_le_bytes().to_vec(), vec![240, 0], vec![0; 2049 + 256 * 240]].concat();
     let too_long = [vec![1, 0, 241, 0, 0], vec![0; 256 * 241]].concat();
-    let long = search(calls, Search::Df, &full, from(0), 2048);
+    let [long, none] = [&full, &still].map(|image| search(calls, Search::Df, image, from(0), 2048));
     vec![
         ("N 2,048, P 240", full.len() == 63_492 && check(&full, Answer::default())),
         ("N 2,049", check(&too_many, refused(2, 0, 0))),
         ("P 241", check(&too_long, refused(3, 0, 0))),
         ("times 65,535", long.times[2047] == 131_070 && long.answer.reached == 3),
+        ("times 0", none.times[2047] == 0 && none.answer.reached == 3 && check(&still, Answer::default())),
     ]
 }
 
@@ -228,7 +243,8 @@ fn two_ways() -> Vec<u8> {
     map(3, &[0; 3], &[&page])
 }
 
-/// "It refuses a limit of 0 with 18, tried after 13"; "use a move only if its limit isn't below it".
+/// "It refuses a limit of 0 with 18, tried after 13", which no longer occurs, and so after 12; "use a move only if its
+/// limit isn't below it".
 fn limits(calls: &Calls) -> Examples {
     let check = |page: &[u8], wanted| (calls.check)(&map(2, &[0, 0], &[page])) == wanted;
     let open = |strip, times: [u32; 3]| {
@@ -238,7 +254,8 @@ fn limits(calls: &Calls) -> Examples {
     vec![
         ("04 is unknown", check(&[4], refused(8, 0, 0))),
         ("18", check(&[1, 0, 0, 3, 1, 0, 1, 0, 0, 0], refused(18, 0, 3))),
-        ("13 before 18", check(&[1, 0, 0, 3, 1, 0, 0, 0, 0, 0], refused(13, 0, 3))),
+        ("18, time 0", check(&[1, 0, 0, 3, 1, 0, 0, 0, 0, 0], refused(18, 0, 3))),
+        ("12 before 18", check(&[1, 0, 0, 3, 0, 0, 0, 0, 0, 0], refused(12, 0, 3))),
         ("limit 8,120, strip 0", open(0, [0, 4, 7])),
         ("limit 8,120, strip 8,120", open(8_120, [0, 4, 7])),
         ("limit 8,120, strip 8,121", open(8_121, [0, 4, 9])),
@@ -259,7 +276,7 @@ fn panel(calls: &Calls) -> Examples {
         let to_2 = |source, wanted| shows(&two_ways(), Query { source, strip }, 2, wanted);
         to_2(0, from_0) && to_2(1, from_1)
     };
-    let chain: Vec<_> = (0..2047).map(|station| (station, station + 1, 65_535)).collect();
+    let [chain, still] = [65_535, 0].map(chain);
     vec![
         ("panel: C1", (0..7).zip(times).all(|(station, time)| shows(&m7, from(0), station, time))),
         ("panel: no route", shows(&m7, from(6), 0, -1.0) && shows(&m7, from(6), 6, 0.0)),
@@ -272,6 +289,8 @@ fn panel(calls: &Calls) -> Examples {
         ("panel: limit 8,120, strip 8,120", limited(8_120, 7.0, 3.0)),
         ("panel: limit 8,120, strip 8,121", limited(8_121, 9.0, -1.0)),
         ("panel: greatest time", shows(&full(&chain), from(0), 2_047, 134_150_145.0)),
+        ("panel: time 0", (0..2).all(|source| shows(&turntable(2), from(source), 1 - source, 0.0))),
+        ("panel: time 0 after 2,047 moves", shows(&full(&still), from(0), 2_047, 0.0)),
     ]
 }
 
@@ -309,12 +328,110 @@ fn tables(calls: &Calls) -> Examples {
         let tables = Tables { times: &mut [7; 7], moves, preds: &mut [7; 7], marks: &mut [7; 7], list: &mut [7; 7] };
         (calls.search)(Search::Plain, &m7(), from(0), tables)
     };
-    let chain: Vec<_> = (0..2047).map(|station| (station, station + 1, 65_535)).collect();
-    let chain = search(calls, Search::Df, &full(&chain), from(0), 2048);
+    let chain = search(calls, Search::Df, &full(&chain(65_535)), from(0), 2048);
     vec![
         ("moves: none", run(&m7(), 6).moves == [65535, 65535, 65535, 65535, 65535, 65535, 0]),
         ("moves: 7", short(&mut kept) == refused(7, 0, 0) && kept == [7; 4]),
         ("moves: C7", run(&spoiled_m7(), 0).moves == [65535; 7]),
         ("moves: the most", chain.moves[2047] == 2047 && chain.times[2047] == 134_150_145),
+    ]
+}
+
+/// "A turntable stop has two station numbers and nothing moves between them": moves of time 0 both ways, on one page or
+/// on two.
+fn turntable(pages: u8) -> Vec<u8> {
+    drawn(usize::from(pages), vec![0, pages - 1], &[(0, 1, 0), (1, 0, 0)])
+}
+
+/// What both searches have to give where every station is reached.
+struct Wanted<'a> {
+    times: &'a [u32],
+    moves: &'a [u16],
+    preds: &'a [u16],
+    plain: &'a [u8],
+    df: &'a [u8],
+}
+
+impl Wanted<'_> {
+    fn comes_of(&self, calls: &Calls, image: &[u8], source: u16) -> bool {
+        let n = self.times.len();
+        [(Search::Plain, self.plain), (Search::Df, self.df)].into_iter().all(|(kind, list)| {
+            let given = search(calls, kind, image, from(source), n);
+            let tables = given.times == self.times && given.moves == self.moves && given.preds == self.preds;
+            tables && given.list == list && given.answer == accepted(list.len() as u32, n as u32)
+        })
+    }
+}
+
+/// "Time 0 is accepted in `02` and `03`." The other station of a turntable has the source's time and a move more, and
+/// the way back, with two, leaves the source as it is.
+fn turntables(calls: &Calls) -> Examples {
+    let turned = |image: &[u8], source, plain, df| {
+        let (moves, preds) = if source == 0 { (&[0, 1], &[65534, 0]) } else { (&[1, 0], &[1, 65534]) };
+        Wanted { times: &[0, 0], moves, preds, plain, df }.comes_of(calls, image, source)
+    };
+    let [one_page, two_pages] = [1, 2].map(turntable);
+    // On one page with `03`, for strips of up to 8,120 decimetres.
+    let limited = [1, 0, 0, 3, 1, 0, 0, 0, 0xB8, 0x1F, 1, 1, 0, 3, 0, 0, 0, 0, 0xB8, 0x1F];
+    let limited = map(2, &[0, 0], &[&limited]);
+    let closed = search(calls, Search::Df, &limited, Query { source: 0, strip: 8_121 }, 2);
+    // At the end of a way: by time alone each of its stations would be the other's predecessor.
+    let behind = drawn(2, vec![0, 1, 1], &[(2, 1, 5), (0, 1, 0), (1, 0, 0)]);
+    let (times, moves, preds) = (&[5, 5, 0], &[2, 1, 0], &[1, 2, 65534]);
+    let after_5 = Wanted { times, moves, preds, plain: &[1, 1, 0], df: &[1, 0] };
+    vec![
+        ("handover: on one page", (0..2).all(|source| turned(&one_page, source, &[0, 0], &[0]))),
+        ("handover: on two pages, from 0", turned(&two_pages, 0, &[0, 1], &[0, 1])),
+        ("handover: on two pages, from 1", turned(&two_pages, 1, &[1, 0], &[1, 0])),
+        ("handover: with limits", (0..2).all(|source| turned(&limited, source, &[0, 0], &[0]))),
+        ("handover: closed", closed.preds == [65534, 65535] && closed.answer == accepted(1, 1)),
+        ("handover: at the end of a way", after_5.comes_of(calls, &behind, 2)),
+    ]
+}
+
+/// "The page list rule includes cycles of such moves, and every predecessor chain still ends at the source."
+fn cycles(calls: &Calls) -> Examples {
+    let three = drawn(3, vec![0, 1, 2], &[(0, 1, 0), (1, 2, 0), (2, 0, 0)]);
+    let preds = [2, 65534, 1];
+    let from_1 = Wanted { times: &[0; 3], moves: &[2, 0, 1], preds: &preds, plain: &[1, 2, 0], df: &[1, 2, 0] };
+    let mut way = [7; 3];
+    let count = (calls.route)(&preds, 0, &mut way).count;
+    // 0-1-2-3-0 on two pages, which it comes to once each or by turns.
+    let four = |directory: [u8; 4], df: &[u8]| {
+        let image = drawn(2, directory.to_vec(), &[(0, 1, 0), (1, 2, 0), (2, 3, 0), (3, 0, 0)]);
+        let (moves, preds) = (&[0, 1, 2, 3], &[65534, 0, 1, 2]);
+        Wanted { times: &[0; 4], moves, preds, plain: &directory, df }.comes_of(calls, &image, 0)
+    };
+    let line = |back: &[_]| {
+        let image = full(&[&chain(0), back].concat());
+        let moves: Vec<u16> = (0..2048).collect();
+        let preds: Vec<u16> = [65534].into_iter().chain(0..2047).collect();
+        let list: Vec<u8> = (0..2048).map(|station| (station % 240) as u8).collect();
+        let wanted = Wanted { times: &[0; 2048], moves: &moves, preds: &preds, plain: &list, df: &list };
+        wanted.comes_of(calls, &image, 0)
+    };
+    vec![
+        ("handover: the source in a cycle through three pages", from_1.comes_of(calls, &three, 1)),
+        ("handover: a route in it", count == 3 && way == [1, 2, 0]),
+        ("handover: a cycle through two pages", four([0, 0, 1, 1], &[0, 1])),
+        ("handover: a cycle through two pages by turns", four([0, 1, 0, 1], &[0, 1, 0, 1])),
+        ("handover: a chain of 2,048 stations", line(&[])),
+        ("handover: a cycle of 2,048 stations", line(&[(2047, 0, 0)])),
+    ]
+}
+
+/// Fewer moves decide at time 0 too: the maps of `fewer_moves` on which a station is no longer fresh, and on which two
+/// pages are bad.
+fn fewer_handovers(calls: &Calls) -> Examples {
+    let again = drawn(2, vec![0, 0, 0, 0, 1], &[(0, 1, 0), (0, 4, 0), (1, 2, 0), (2, 3, 0), (4, 3, 0)]);
+    let (moves, preds) = (&[0, 1, 2, 2, 1], &[65534, 0, 1, 4, 0]);
+    let fewer = Wanted { times: &[0; 5], moves, preds, plain: &[0, 0, 1, 0, 0], df: &[0, 1, 0] };
+    let mut spoiled = drawn(3, vec![0, 1, 2, 0], &[(0, 3, 0), (3, 1, 0), (0, 2, 0)]);
+    spoiled[4 + 4 + 256] = 7;
+    spoiled[4 + 4 + 512] = 7;
+    let bad = search(calls, Search::Df, &spoiled, from(0), 4);
+    vec![
+        ("handover: a station no longer fresh", fewer.comes_of(calls, &again, 0)),
+        ("handover: the refused page", bad.list == [0, 2] && bad.answer == Answer { count: 2, ..refused(8, 2, 0) }),
     ]
 }

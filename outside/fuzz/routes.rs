@@ -6,7 +6,7 @@ use outside::maps::cases::RouteCase;
 use outside::random::Random;
 use outside::reference::route::Routes;
 use outside::reference::walks::Leg;
-use outside::reference::NO_TIME;
+use outside::reference::{NO_TIME, SOURCE};
 use outside::yard;
 use std::collections::HashMap;
 
@@ -44,6 +44,34 @@ pub fn compare_all(
         }
     }
     Ok(())
+}
+
+/// "Every predecessor chain still ends at the source": that of each station with a time, after as many steps as it has
+/// moves, at most N - 1. The source alone has 65,534, and a station without a time has no chain. `compare_all` sees
+/// less of this: a chain that does not end would be refused (16) by the route and by its reference alike.
+pub fn compare_chains(tables: &LentTables, source: u16, stations: usize) -> Result<(), String> {
+    let preds = &tables.preds.entries()[..stations];
+    for (station, &(time, moves)) in tables.times_and_moves()[..stations].iter().enumerate() {
+        let wanted = (time != NO_TIME).then_some((source, usize::from(moves)));
+        let end = chain_end(preds, station as u16);
+        if end != wanted {
+            return Err(format!("back from {station} a source and the steps to it are {end:?}, not {wanted:?}"));
+        }
+    }
+    Ok(())
+}
+
+/// The first station with 65,534 that the predecessors lead back to, and the number of steps; none if they lead to no
+/// such station within N - 1 steps.
+fn chain_end(preds: &[u16], station: u16) -> Option<(u16, usize)> {
+    let mut at = station;
+    for steps in 0..preds.len() {
+        match *preds.get(usize::from(at))? {
+            SOURCE => return Some((at, steps)),
+            before => at = before,
+        }
+    }
+    None
 }
 
 /// One call; hands back the stations of an accepted route.

@@ -25,7 +25,7 @@ struct Called<'a> {
     tables: LentTables,
 }
 
-/// What both the engine and the reference made of it.
+/// What both the engine and the reference made of it; the outcome is the engine's own.
 struct Agreed {
     answer: Answer,
     outcome: Outcome,
@@ -116,8 +116,9 @@ impl Called<'_> {
         let (mut lent_answer, mut tables) = (self.answer.clone(), self.tables.clone());
         let answer = letter::search(self.kind, self.image, self.query, tables.lend());
         answer.write(lent_answer.lend());
-        let outcome = Outcome { refusal: answer.refusal, answer: lent_answer, tables };
-        self.ours(self.image).compare(&outcome)?;
+        let wanted = Outcome { refusal: answer.refusal, answer: lent_answer, tables };
+        let outcome = self.ours(self.image);
+        outcome.compare(&wanted)?;
         tally.call(Call::of(self.kind), answer, false);
         Ok(Agreed { answer, outcome })
     }
@@ -170,13 +171,17 @@ fn compare_demands(
     let accepted = df.answer.refusal == 0;
     if accepted {
         compare_lists(image, &legs, query.source, plain, df)?;
+        for (name, agreed) in [("plain", plain), ("DF", df)] {
+            routes::compare_chains(&agreed.outcome.tables, query.source, image.stations)
+                .map_err(|difference| format!("{name}: {difference}"))?;
+        }
+        tally.handovers(image, &legs, query.source, &truth);
     }
     tally.search(image, pages, plain.list(), df.list(), accepted);
     let all_open = Query { strip: 0, ..*query };
     tally.closed(walks::legs(pages, 0).len() - legs.len(), &truth, &walks::truth(image, pages, all_open));
-    let by_time = walks::truth_by_time_alone(image, pages, *query);
-    let df_by_time = letter::df_list_by_time_alone(image, *query);
-    tally.fewer_moves((&truth, df.list()), (&by_time, &df_by_time));
+    let by_time = [Search::Plain, Search::Df].map(|kind| letter::by_time_alone(kind, image, *query));
+    tally.fewer_moves(&truth, df.list(), &by_time);
     routes::compare_all(&df.outcome.tables, &legs, image.stations, random, tally)
 }
 

@@ -1,11 +1,15 @@
 //! What came up in a run: how often each call gave each refusal, of which kinds the cases were, and how often the
-//! searches and the panel did what is easily got wrong, had moves closed or went by the number of moves.
+//! searches and the panel did what is easily got wrong, had moves closed, went by the number of moves or used moves of
+//! time 0.
 
+use crate::cycles;
 use outside::reference::image::Image;
-use outside::reference::lists::one_page_reads;
+use outside::reference::letter::ByTimeAlone;
+use outside::reference::lists::{is_left_of, one_page_reads};
 use outside::reference::panel::{Inside, Panel};
-use outside::reference::walks::{Pages, Truth};
-use outside::reference::{Answer, Search, NO_MOVES};
+use outside::reference::route::Routes;
+use outside::reference::walks::{Leg, Pages, Truth};
+use outside::reference::{Answer, Search, NO_MOVES, NO_PREDECESSOR, SOURCE};
 use std::collections::BTreeMap;
 use std::fmt;
 
@@ -30,6 +34,8 @@ impl Call {
 /// Accepted, refusals 1 to 18, "no route".
 const OUTCOMES: usize = 20;
 const NO_ROUTE: usize = 19;
+/// "Time 0 is accepted in `02` and `03`, so 13 no longer occurs."
+const WITHDRAWN: usize = 13;
 
 #[derive(Default)]
 pub struct Tally {
@@ -70,16 +76,27 @@ impl Tally {
         self.note("accepted, refused if every move were open", truth.refused.is_none() && all_open.refused.is_some());
     }
 
-    /// What the number of moves did to a search, beside what it would give if it went by time alone; each with its DF
-    /// list.
-    pub fn fewer_moves(&mut self, (truth, df): (&Truth, &[u8]), (by_time, df_by_time): (&Truth, &[u8])) {
+    /// What the number of moves did to a search with this DF list, beside what the plain and the DF search would come
+    /// to if they went by time alone.
+    pub fn fewer_moves(&mut self, truth: &Truth, df: &[u8], [plain_by_time, df_by_time]: &[ByTimeAlone; 2]) {
         let accepted = truth.refused.is_none();
+        let preds = &plain_by_time.preds;
+        let another = accepted && truth.preds != *preds;
         let differences = [
-            ("by time alone: another predecessor", accepted && truth.preds != by_time.preds),
-            ("by time alone: another plain list", truth.plain_list != by_time.plain_list),
-            ("by time alone: another DF list", df != df_by_time),
-            ("by time alone: a DF list of another length", df.len() != df_by_time.len()),
-            ("by time alone: another page refused", truth.refused != by_time.refused),
+            ("by time alone: another predecessor", another),
+            ("by time alone: the source has a predecessor", another && !preds.contains(&SOURCE)),
+            ("by time alone: a chain that does not end at the source", another && is_endless(preds)),
+            ("by time alone: another plain list", truth.plain_list != plain_by_time.list),
+            ("by time alone: another DF list", df != df_by_time.list),
+            ("by time alone: a DF list of another length", df.len() != df_by_time.list.len()),
+            (
+                "by time alone: a DF list that is not plain's with entries left out",
+                accepted && !is_left_of(&df_by_time.list, &plain_by_time.list),
+            ),
+            (
+                "by time alone: another page refused",
+                truth.refused.map(|refused| refused.page) != plain_by_time.refused,
+            ),
         ];
         for (note, differs) in differences {
             self.note(note, differs);
@@ -87,6 +104,29 @@ impl Tally {
         self.note("by time alone: any of these", differences.iter().any(|&(_, differs)| differs));
         let most = truth.moves.iter().filter(|&&moves| moves != NO_MOVES).max();
         self.note("accepted, a way of 1,000 moves or more", most.is_some_and(|&moves| moves >= 1000));
+    }
+
+    /// What moves of time 0 did in an accepted search.
+    pub fn handovers(&mut self, image: &Image, legs: &[Leg], source: u16, truth: &Truth) {
+        let before = |station: usize| truth.times.get(usize::from(truth.preds[station]));
+        let used = (0..image.stations).any(|station| before(station) == Some(&truth.times[station]));
+        let at_once = (0..image.stations).filter(|&station| truth.times[station] == 0);
+        let most = at_once.map(|station| truth.moves[station]).max();
+        let handovers = legs.iter().filter(|leg| leg.time == 0 && truth.moves[usize::from(leg.from)] != NO_MOVES);
+        let cycles = cycles::groups(image.stations, handovers);
+        let of_source = cycles.iter().find(|group| group.contains(&usize::from(source)));
+        let over_pages = |group: &Vec<usize>| group.iter().any(|&at| image.page_of(at) != image.page_of(group[0]));
+        let notes = [
+            ("accepted, a move of time 0 on a least way", used),
+            ("accepted, a way of 20 moves or more in time 0", most >= Some(20)),
+            ("accepted, a cycle of time 0 through the source", of_source.is_some()),
+            ("accepted, a cycle of time 0 through the source and another page", of_source.is_some_and(over_pages)),
+            ("accepted, a cycle of time 0 through two pages or more", cycles.iter().any(over_pages)),
+            ("accepted, a cycle of time 0 on one page", cycles.iter().any(|group| !over_pages(group))),
+        ];
+        for (note, came_up) in notes {
+            self.note(note, came_up);
+        }
     }
 
     /// What the panel showed for a station.
@@ -102,12 +142,29 @@ impl Tally {
         *self.notes.entry(note).or_default() += u64::from(came_up);
     }
 
-    /// The refusals that no call gave, and what was looked for and not seen.
+    /// The outcomes that no call had, and what was looked for and not seen.
     pub fn missing(&self) -> Vec<String> {
-        let never = |outcome: &usize| self.calls.iter().all(|call| call[*outcome] == 0);
+        let never = |outcome: &usize| *outcome != WITHDRAWN && self.count(*outcome) == 0;
         let unseen = self.notes.iter().filter(|(_, &count)| count == 0).map(|(note, _)| note.to_string());
         (0..OUTCOMES).filter(never).map(name).chain(unseen).collect()
     }
+
+    /// How often a call refused with 13.
+    pub fn withdrawn(&self) -> u64 {
+        self.count(WITHDRAWN)
+    }
+
+    fn count(&self, outcome: usize) -> u64 {
+        self.calls.iter().map(|call| call[outcome]).sum()
+    }
+}
+
+/// Whether some predecessors do not lead back to a source.
+fn is_endless(preds: &[u16]) -> bool {
+    let routes = Routes::new(preds);
+    let leads =
+        |(station, &before): (usize, &u16)| before == NO_PREDECESSOR || routes.length(station as u16).is_some();
+    !preds.iter().enumerate().all(leads)
 }
 
 fn name(outcome: usize) -> String {

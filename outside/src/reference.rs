@@ -1,7 +1,7 @@
-//! Document 01 once more, with the limits and the numbers of moves of document 02, in Rust and from their words alone:
-//! the whole check and page reader (`image`), both searches step by step (`letter`), what a search has to give by an
-//! altogether different method (`walks`), the words of demand 3 (`lists`), the route (`route`) and document 02's panel
-//! (`panel`). Slow and plain on purpose: it is there to be read and believed.
+//! Document 01 once more, with the limits, the numbers of moves and the moves of time 0 of document 02, in Rust and
+//! from their words alone: the whole check and page reader (`image`), both searches step by step (`letter`), what a
+//! search has to give by an altogether different method (`walks`), the words of demand 3 (`lists`), the route (`route`)
+//! and document 02's panel (`panel`). Slow and plain on purpose: it is there to be read and believed.
 
 pub mod image;
 pub mod letter;

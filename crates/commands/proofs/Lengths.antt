@@ -1,7 +1,7 @@
 -- Commands at an offset: their lengths, what stands there if one is read, and each command by its code.
-use Rattle.common.proofs.Ground.{_≡_, refl, subst, _&&_, _⊎_, inl, inr, List, ℕ, zero, suc, _+_, _*_, _≤_, _<_, arith}
-use Rattle.common.proofs.Ground.{length, getD, lit≤, eqb, ltb, leb, ltb-false, eqb-true, eqb-false, lt-leb, le-ltb}
-use Rattle.common.proofs.Ground.{lt-ltb}
+use Rattle.common.proofs.Ground.{_≡_, _≢_, refl, subst, not, _&&_, _⊎_, inl, inr, List, ℕ, zero, suc, _+_, _*_, _≤_, _<_}
+use Rattle.common.proofs.Ground.{arith, length, getD, lit≤, eqb, ltb, leb, ltb-false, eqb-true, eqb-false, lt-leb}
+use Rattle.common.proofs.Ground.{le-ltb, lt-ltb}
 use Rattle.common.proofs.Cases.{by-pick}
 use lib.Dec.{T, leb→le}
 use lib.Ieee.Fits.{and-l, and-r}
@@ -43,15 +43,27 @@ pub record MoveStands (page : List ℕ) (at code : ℕ) (m : Move) : Type 0 wher
   pub unlimited : code ≡ 2 → m .limit ≡ 0
   pub limit : code ≡ 3 → word page (at + 5) ≡ m .limit
 
--- The numbers that a page's refusals have, by a test, and what it says.
+-- The numbers that a page's refusals have, by a test, and what it says: 8 to 18, and not 13 (C-15: "13 no longer
+-- occurs").
 abbrev pub OfPage : ℕ → Type 0
-OfPage number = T (leb 8 number && leb number 18)
+OfPage number = T (leb 8 number && (leb number 18 && not (eqb number 13)))
 
-pub of-page : (number : ℕ) → OfPage number → (8 ≤ number) × (number ≤ 18)
+pub record PageNumber (number : ℕ) : Type 0 where
+  pub least : 8 ≤ number
+  pub most : number ≤ 18
+  pub not-13 : number ≢ 13
+
+pub of-page : (number : ℕ) → OfPage number → PageNumber number
 of-page number k =
     let least = leb 8 number in
     let most = leb number 18 in
-    (leb→le 8 number (and-l least most k), leb→le number 18 (and-r least most k))
+    let other = not (eqb number 13) in
+    let behind = and-r least (most && other) k in
+    record {
+      least = leb→le 8 number (and-l least (most && other) k);
+      most = leb→le number 18 (and-l most other behind);
+      not-13 = λ is. rw is at (and-r most other behind);
+    }
 
 -- What was read as a command stands there: it ends within the page, and its code and its numbers are these. Of a fault
 -- its number is known.

@@ -9,6 +9,7 @@ costs-order = record {
   order = λ t m u n a b p. ⊎-elim (λ le. omega (arith, p .0, p .1 (omega (arith, p .0)))) (λ lt. omega arith)
       (le-or-lt u t);
   ordered = λ t m u n a b le. (omega arith, λ e. omega arith);
+  onward = λ t m w. (omega arith, λ p. omega (arith, p .0, p .1 (omega (arith, p .0))));
 }
 
 pub numbers-order : {c d : ℕ} → c ≤ d → NoMore (timeIn c) (movesIn c) (timeIn d) (movesIn d)

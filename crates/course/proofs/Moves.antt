@@ -1,4 +1,4 @@
--- Maps on which fewer moves decide, computed from their bytes.
+-- Maps on which fewer moves decide, and maps with moves that take no time, computed from their bytes.
 use Rattle.common.proofs.Ground.{_≡_, refl}
 use Rattle.net.specs.Net.{count}
 use Rattle.net.specs.Search.{least, iter, reached, start, choose, chooseOn, readFor, relax, relaxAll, visit}
@@ -14,8 +14,10 @@ use Rattle.page.specs.Open.{openTo}
 use Rattle.map.specs.Map.{mapPage}
 use Rattle.reply.specs.Reply.{callCheck, onMap, searched}
 use Rattle.course.specs.Cases.{m7, diamond, ours, dijkstras}
-use Rattle.course.specs.Moves.{shortCut, overTheOtherPage, twoBad, found, byFewerMoves, fetchedAgain, ofM7, ofC6}
-use Rattle.course.specs.Moves.{fewerMovesRefused}
+use Rattle.course.specs.Moves.{shortCut, overTheOtherPage, twoBad, foundFrom, found, byFewerMoves, fetchedAgain}
+use Rattle.course.specs.Moves.{ofM7, ofC6, fewerMovesRefused}
+use Rattle.course.specs.Handover.{turntable, onTwoPages, behindTwo, throughThreePages, chainAtZero, ofTurntable}
+use Rattle.course.specs.Handover.{fromTheOther, ofTwoPages, ofBehindTwo, ofThreePages, ofChain}
 
 pub record Deciding : Type 0 where
   pub predecessor : found shortCut ≡ byFewerMoves
@@ -25,16 +27,40 @@ pub record Deciding : Type 0 where
   pub m7-moves : found m7 ≡ ofM7
   pub c6-moves : found diamond ≡ ofC6
 
-pub deciding : Deciding
+pub record WithoutTime : Type 0 where
+  pub one-page : foundFrom turntable 0 ≡ ofTurntable
+  pub from-the-other : foundFrom turntable 1 ≡ fromTheOther
+  pub two-pages : foundFrom onTwoPages 0 ≡ ofTwoPages
+  pub from-outside : foundFrom behindTwo 2 ≡ ofBehindTwo
+  pub three-pages : foundFrom throughThreePages 0 ≡ ofThreePages
+  pub chain : foundFrom chainAtZero 0 ≡ ofChain
+
+computed : Deciding × WithoutTime
 unfolding count least iter reached start choose chooseOn readFor relax relaxAll visit workTurn workThrough plainVisit
     dfVisit stepBy searchBy plainSearch dfSearch allZero directoryOf pageBytes firstNotBelow headingCheck commandAt
     firstOn nextOn judgeEnd judgeStation moveFault judgeMove judgeLimited judge judgedAt readFrom readPage readingOf
     movesIn openTo mapPage callCheck onMap searched
-deciding = record {
-  predecessor = refl;
-  freshness = refl;
-  refused = refl;
-  refused-by-dijkstras = refl;
-  m7-moves = refl;
-  c6-moves = refl;
-}
+computed = (
+  record {
+    predecessor = refl;
+    freshness = refl;
+    refused = refl;
+    refused-by-dijkstras = refl;
+    m7-moves = refl;
+    c6-moves = refl;
+  },
+  record {
+    one-page = refl;
+    from-the-other = refl;
+    two-pages = refl;
+    from-outside = refl;
+    three-pages = refl;
+    chain = refl;
+  },
+)
+
+pub deciding : Deciding
+deciding = computed .0
+
+pub without-time : WithoutTime
+without-time = computed .1

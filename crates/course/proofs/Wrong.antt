@@ -1,9 +1,10 @@
 -- Each wrong version is refused by its clause alone: what the clause says of it is false, by computation from the map's
 -- bytes.
 use Rattle.common.proofs.Ground.{_≡_, refl, ap, sym, _∙_, false, true≢false, List, [], _∷_, List·Memᴰ, List·Memᴰ·head}
-use Rattle.common.proofs.Ground.{List·Memᴰ·tail, Sublistᴰ, Sublistᴰ·cons, Sublistᴰ·cons-cons, Sublistᴰ·eq-nil, ℕ, _≤_}
-use Rattle.common.proofs.Ground.{_<_, arith, getD, take}
+use Rattle.common.proofs.Ground.{List·Memᴰ·tail, Sublistᴰ, Sublistᴰ·cons, Sublistᴰ·cons-cons, Sublistᴰ·eq-nil, ℕ}
+use Rattle.common.proofs.Ground.{zero, suc, _≤_, _<_, arith, getD, take}
 use Rattle.common.specs.Numbers.{noTime, sourceMark}
+use Rattle.common.specs.Chains.{back}
 use Rattle.net.specs.Net.{isGood, Walk, here, onward, count, timesIn, movesTo, entersFrom, isEntry, entryStations}
 use Rattle.net.specs.Demands.{Spells, at-source, step}
 use Rattle.net.specs.Search.{least, iter, reached, start, choose, chooseOn, readFor, relax, relaxAll, visit}
@@ -25,7 +26,7 @@ use Rattle.course.specs.Moves.{shortCut}
 use Rattle.course.specs.Wrong.{Wrong, Refused, wrongVersions, refusesAll, dijkstrasOwnList, pageLeftOut}
 use Rattle.course.specs.Wrong.{pageThatDijkstrasLacks, otherReachedCount, fixedAnswer, tablesUntouched, noneLeft}
 use Rattle.course.specs.Wrong.{merelySettles, badPageWithoutMoves, fasterWithLonger, moreMoves}
-use Rattle.course.specs.Wrong.{predecessorByTime}
+use Rattle.course.specs.Wrong.{predecessorByTime, sourceOverwritten, inCircles}
 
 -- What the definitions compute for M7 and for M7 with page 1 bad.
 record Computed : Type 0 where
@@ -152,6 +153,22 @@ predecessor-by-time says = three (says refl .spells 3 (omega arith) .1)
         → Spells (mapFrame shortCut) (mapPage courseStrip shortCut) 0 (sourceMark ∷ 2 ∷ 0 ∷ 1 ∷ []) 3 t 2 → ⊥
     three (step v w e g (step u x f h (at-source k))) = let z : _≡_ {A = ℕ} 2 0 = rw (← e) at f in omega arith
 
+-- the source has 1 for a predecessor
+source-overwritten : Refused sourceOverwritten
+unfolding directoryOf
+source-overwritten says = let z : _≡_ {A = ℕ} 1 sourceMark = says refl .source-entry in omega arith
+
+-- no steps back from station 0 lead to station 2
+in-circles : Refused inCircles
+unfolding back
+in-circles says = let (k, few, leads) = says refl .ends 0 (λ e. omega arith) in never-two k few leads
+  where
+    never-two : (k : ℕ) → k < 3 → back (1 ∷ 0 ∷ sourceMark ∷ []) k 0 ≡ 2 → ⊥
+    never-two zero few e = omega arith
+    never-two (suc zero) few e = omega arith
+    never-two (suc (suc zero)) few e = omega arith
+    never-two (suc (suc (suc k))) few e = omega arith
+
 -- All of them, by the table.
 infixr 5 _then_
 data AllRefused : List Wrong → Type 0 where
@@ -163,7 +180,7 @@ unfolding wrongVersions
 all-refused =
     refuses-all then dijkstras-own-list then page-left-out then page-that-dijkstras-lacks then other-reached-count then
     fixed-answer then tables-untouched then none-left then merely-settles then bad-page-without-moves then
-    faster-with-longer then more-moves then predecessor-by-time then no-more
+    faster-with-longer then more-moves then predecessor-by-time then source-overwritten then in-circles then no-more
 
 by-rows : (rows : List Wrong) → AllRefused rows → (w : Wrong) → List·Memᴰ w rows → Refused w
 by-rows (r ∷ rows) (one then others) w (List·Memᴰ·head e) = rw e one

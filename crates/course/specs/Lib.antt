@@ -1,4 +1,5 @@
 pub mod Cases
 pub mod Limits
 pub mod Moves
+pub mod Handover
 pub mod Wrong

@@ -39,7 +39,7 @@ twoBad =
     1 ∷ 2 ∷ 0 ∷ 2 ∷ 1 ∷ 0 ∷ 1 ∷ 0 ∷ []) ++
     (paged (7 ∷ []) ++ paged (7 ∷ [])))
 
--- What is found from station 0: times, moves and predecessors, our list and Dijkstra's.
+-- What is found from a source: times, moves and predecessors, our list and Dijkstra's.
 pub record Found : Type 0 where
   pub times : List ℕ
   pub moves : List ℕ
@@ -47,16 +47,19 @@ pub record Found : Type 0 where
   pub ours : List ℕ
   pub dijkstras : List ℕ
 
-abbrev pub found : List ℕ → Found
-found image =
-    let h = ours image 0 in
+abbrev pub foundFrom : List ℕ → ℕ → Found
+foundFrom image source =
+    let h = ours image source in
     record {
       times = h .tables .times;
       moves = h .tables .moves;
       preds = h .tables .preds;
       ours = listOf h;
-      dijkstras = listOf (dijkstras image 0);
+      dijkstras = listOf (dijkstras image source);
     }
+
+abbrev pub found : List ℕ → Found
+found image = foundFrom image 0
 
 -- Station 3 has predecessor 2 and not 1, though 1 is lower and gives the time: it does not give the moves.
 abbrev pub byFewerMoves : Found

@@ -8,13 +8,15 @@ use Rattle.common.specs.Numbers.{noTime, noMoves, sourceMark, noPred}
 use Rattle.net.specs.Search.{dfSearch}
 use Rattle.image.specs.Image.{accepted, refused, nowhere}
 use Rattle.reply.specs.Reply.{asked, reply, Handed, handed, lent}
-use Rattle.search.specs.Promises.{TimesAreLeast, ListAgainstDijkstra, SameOnListedPages, NoLessThanShorter}
+use Rattle.search.specs.Promises.{TimesAreLeast, ChainsEndAtSource, ListAgainstDijkstra, SameOnListedPages}
+use Rattle.search.specs.Promises.{NoLessThanShorter}
 use Rattle.course.specs.Cases.{m7, m7Bad, lentFor, courseStrip, ours}
 use Rattle.course.specs.Moves.{shortCut}
+use Rattle.course.specs.Handover.{turntable, behindTwo}
 
 -- The parts of what `df` promises (search/specs/Promises.antt), by their names.
 pub data Clause : Type 0 where
-  outcome times list images lengths : Clause
+  outcome times chains list images lengths : Clause
 
 pub record Wrong : Type 0 where
   pub image : List ℕ
@@ -26,6 +28,7 @@ pub record Wrong : Type 0 where
 abbrev pub Says : Clause → List ℕ → ℕ → Handed → Type 0
 Says outcome image source h = h ≡ ours image source
 Says times image source h = TimesAreLeast (asked image source courseStrip) h
+Says chains image source h = ChainsEndAtSource (asked image source courseStrip) h
 Says list image source h = ListAgainstDijkstra (asked image source courseStrip) (lentFor image) h
 Says images image source h = SameOnListedPages (asked image source courseStrip) dfSearch (lentFor image) h
 Says lengths image source h = NoLessThanShorter (asked image source courseStrip) dfSearch h
@@ -130,8 +133,17 @@ abbrev pub predecessorByTime : Wrong
 predecessorByTime = wrong shortCut 0
     (back 1 4 (0 ∷ 2 ∷ 1 ∷ 4 ∷ []) (0 ∷ 2 ∷ 1 ∷ 2 ∷ []) (sourceMark ∷ 2 ∷ 0 ∷ 1 ∷ []) (0 ∷ 9 ∷ 9 ∷ 9 ∷ [])) times
 
+-- Against C-15, where "equal time alone makes a tie": a move of no time leads back to the source and gives it a
+-- predecessor; and the two stations of a turntable are each other's predecessor.
+abbrev pub sourceOverwritten : Wrong
+sourceOverwritten = wrong turntable 0 (back 1 2 (0 ∷ 0 ∷ []) (0 ∷ 1 ∷ []) (1 ∷ 0 ∷ []) (0 ∷ 9 ∷ [])) chains
+
+abbrev pub inCircles : Wrong
+inCircles = wrong behindTwo 2
+    (back 1 3 (5 ∷ 5 ∷ 0 ∷ []) (1 ∷ 1 ∷ 0 ∷ []) (1 ∷ 0 ∷ sourceMark ∷ []) (0 ∷ 9 ∷ 9 ∷ [])) chains
+
 unfoldable pub wrongVersions : List Wrong
 wrongVersions =
     refusesAll ∷ dijkstrasOwnList ∷ pageLeftOut ∷ pageThatDijkstrasLacks ∷ otherReachedCount ∷ fixedAnswer ∷
     tablesUntouched ∷ noneLeft ∷ merelySettles ∷ badPageWithoutMoves ∷ fasterWithLonger ∷ moreMoves ∷
-    predecessorByTime ∷ []
+    predecessorByTime ∷ sourceOverwritten ∷ inCircles ∷ []

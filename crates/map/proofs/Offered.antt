@@ -1,13 +1,13 @@
 -- What a page offers to strips. First, computed on a content of two pages, so that a wrong definition of what is
 -- offered is refused by these numbers: a closed move makes no entry station. Then the laws: what is offered to a strip
--- is offered to every shorter one; and a page that offers nothing gives the number and offset of a page's refusal.
+-- is offered to every shorter one; and a bad page gives the number and offset of a page's refusal.
 use Rattle.common.proofs.Ground.{_≡_, refl, List, [], _∷_, List·Memᴰ, ℕ, _≤_, getD}
 use Rattle.common.proofs.Cases.{never}
 use Rattle.net.specs.Net.{Page, Frame, frame, Goes, movesOf, count, timesIn, movesTo, entersFrom, isEntry, entryStations}
 use Rattle.net.specs.Net as net
 use Rattle.net.specs.Net.{Move as NetMove}
 use Rattle.image.specs.Image.{directoryOf}
-use Rattle.commands.proofs.Lengths.{of-page}
+use Rattle.commands.proofs.Lengths.{PageNumber}
 use Rattle.page.specs.Reading.{Reading, Leaving, good, bad, readingOf, movesIn}
 use Rattle.page.specs.Open.{openTo}
 use Rattle.page.proofs.Open.{open-shorter}
@@ -51,16 +51,15 @@ goes-shorter image less u v w k = offers-shorter less (readingOf image (getD (di
 
 -- a page that is bad for a strip was read to a fault
 fault-offered : (strip : ℕ) (r : Reading) (number offset : ℕ) → offered strip r ≡ net.bad number offset → FaultBy 256 r
-    → (8 ≤ number) × (number ≤ 18) × (offset ≤ 256)
+    → PageNumber number × (offset ≤ 256)
 fault-offered strip (good moves stations) number offset e k = never (cc)
 fault-offered strip (bad n o) number offset e k =
     let same : n ≡ number = cc in
     let there : o ≡ offset = cc in
-    let known = of-page n (k .0) in
-    rw (← same, ← there) (known .0, known .1, k .1)
+    rw (← same, ← there) k
 
 pub bad-page : (strip : ℕ) (image : List ℕ) (p number offset : ℕ) → mapPage strip image p ≡ net.bad number offset
-    → (8 ≤ number) × (number ≤ 18) × (offset ≤ 256)
+    → PageNumber number × (offset ≤ 256)
 unfolding mapPage
 bad-page strip image p number offset e =
     fault-offered strip (readingOf image p) number offset e (reading-by-256 image p)

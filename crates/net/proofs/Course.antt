@@ -1,8 +1,8 @@
 -- Beliefs from the course, on the course maps of document 01: each is refuted by computing the DF search, and where the
 -- belief is about how it goes on, a variant that follows the belief (docs/course.md tells them with their numbers).
 -- Beside them stand the runs on M7, so that a wrong definition of the run is refused by the course's numbers first.
-use Rattle.common.proofs.Ground.{_≡_, refl, Bool, true, false, not, _||_, List, [], _∷_, Sublistᴰ, Sublistᴰ·slnil}
-use Rattle.common.proofs.Ground.{Sublistᴰ·cons, Sublistᴰ·cons-cons, ℕ, _+_, getD, take, eqb}
+use Rattle.common.proofs.Ground.{_≡_, refl, Bool, true, false, not, _&&_, _||_, List, [], _∷_, Sublistᴰ}
+use Rattle.common.proofs.Ground.{Sublistᴰ·slnil, Sublistᴰ·cons, Sublistᴰ·cons-cons, ℕ, _+_, getD, set, take, eqb, ltb}
 use Rattle.common.specs.Pick.{pick}
 use Rattle.common.specs.Costs.{cost, timeIn, noCost}
 use Rattle.net.specs.Net.{Move, Page, good, bad, Frame, one}
@@ -160,6 +160,39 @@ pub fewer-moves-refused-first : (dfSearch two-bad two-bad-page 0) .halt ≡ refu
 unfolding iter least relax relaxAll visit choose chooseOn workTurn workThrough readFor dfVisit stepBy searchBy
     start dfSearch
 fewer-moves-refused-first = refl
+
+-- A turntable (C-15), with the moves 0-1/0 and 1-0/0, and 2-0/5, 2-1/5 to it.
+abbrev turntable : Frame
+turntable = record { size = 3; pageOf = λ v. 0; none = noCost }
+
+abbrev turntable-page : ℕ → Page
+turntable-page p = good (λ u. getD ((to 1 0 ∷ []) ∷ (to 0 0 ∷ []) ∷ (to 0 5 ∷ to 1 5 ∷ []) ∷ []) u [])
+
+-- A move counts as no move: equal time alone makes a tie, and a lower station becomes the predecessor.
+abbrev relaxByTime : Frame → ℕ → List Move → State → State
+relaxByTime F u [] s = s
+relaxByTime F u (m ∷ moves) s =
+    let v = m .target in
+    let ties = eqb (timeIn (costOf F s u) + m .time) (timeIn (costOf F s v)) && ltb u (predOf s v) in
+    relaxByTime F u moves
+    (pick ties (withTables (s .costs) (set (s .preds) v u) (s .marks) s) (relax F (noneOrLess F) u m s))
+
+abbrev visitByTime : Frame → (ℕ → List Move) → ℕ → State → State
+visitByTime F moves u s = relaxByTime F u (moves u) (markFresh u s)
+
+-- "A move without time is no move": from 2 the stations of the turntable would be each other's predecessor, and from 0
+-- the source would get one, so that no chain of predecessors ends. A move is a move: 2 is before both, and the source
+-- stays the source.
+pub a-move-without-time-is-a-move :
+    ((searchBy turntable (dfVisitAs turntable turntable-page (visitByTime turntable)) 2) .preds ≡ 1 ∷ 0 ∷ 65534 ∷ [])
+    × ((dfSearch turntable turntable-page 2) .preds ≡ 2 ∷ 2 ∷ 65534 ∷ [])
+    × ((searchBy turntable (dfVisitAs turntable turntable-page (visitByTime turntable)) 0) .preds ≡ 1 ∷ 0 ∷ 65535 ∷ [])
+    × ((dfSearch turntable turntable-page 0) .preds ≡ 65534 ∷ 0 ∷ 65535 ∷ [])
+    × (timeTable (dfSearch turntable turntable-page 2) ≡ 5 ∷ 5 ∷ 0 ∷ [])
+    × (moveTable (dfSearch turntable turntable-page 2) ≡ 1 ∷ 1 ∷ 0 ∷ [])
+unfolding iter least relax relaxAll visit choose chooseOn workTurn workThrough readFor dfVisit stepBy searchBy
+    start dfSearch
+a-move-without-time-is-a-move = (refl, refl, refl, refl, refl, refl)
 
 -- The runs on M7 (specs/Run): C1 to C3, and C7.
 pub m7-runs :

@@ -39,7 +39,7 @@ module _ (F : Frame) (page : ℕ → Page) (source : ℕ) where
   spells-walk (step v w e g sp) = onward v w (spells-walk sp) g
 
   module _ {times moves preds : List ℕ} {reached : ℕ} (a : LeastTimes F page source times moves preds reached) where
-    at-source-pred : predAt preds source ≡ sourceMark
+    pub at-source-pred : predAt preds source ≡ sourceMark
     at-source-pred =
         let none = a .least source 0 0 here in
         ⊎-elim (λ k. k .1)
@@ -47,7 +47,7 @@ module _ (F : Frame) (page : ℕ → Page) (source : ℕ) where
         (last-step (a .spells source (a .timed source 0 0 here) .1))
 
     -- by the predecessor of a station other than the source both its numbers are reached
-    by-pred : (v : ℕ) → v ≢ source → timeAt times v < noTime
+    pub by-pred : (v : ℕ) → v ≢ source → timeAt times v < noTime
         → (w : ℕ) × Goes F page (predAt preds v) v w × (timeAt times (predAt preds v) + w ≡ timeAt times v)
         × (suc (movesAt moves (predAt preds v)) ≡ movesAt moves v)
     by-pred v ne h =

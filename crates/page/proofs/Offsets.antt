@@ -2,7 +2,7 @@
 -- number it has. By induction over the commands read, each of which ends within the page.
 use Rattle.common.proofs.Ground.{List, ℕ, suc, _≤_, arith, length}
 use Rattle.commands.specs.declared.Move.{Move}
-use Rattle.commands.proofs.Lengths.{OfPage}
+use Rattle.commands.proofs.Lengths.{PageNumber, of-page}
 use Rattle.image.specs.Image.{directoryOf, pageBytes}
 use Rattle.page.specs.Reading.{Reading, good, bad, withMove, withStation, readPage, readingOf}
 use Rattle.image.proofs.Parts.{page-short}
@@ -11,7 +11,7 @@ use Rattle.page.proofs.Reading.Steps.{by-commands}
 -- A reading whose fault, if it has one, has a page's number and stands at an offset up to a limit.
 abbrev pub FaultBy : ℕ → Reading → Type 0
 FaultBy limit (good moves stations) = Unit {0}
-FaultBy limit (bad number offset) = OfPage number × (offset ≤ limit)
+FaultBy limit (bad number offset) = PageNumber number × (offset ≤ limit)
 
 module _ (limit : ℕ) where
   after-station : (v : ℕ) (r : Reading) → FaultBy limit r → FaultBy limit (withStation v r)
@@ -27,7 +27,7 @@ page-in : (directory : List ℕ) (p : ℕ) (page : List ℕ) (limit : ℕ) → l
 unfolding readPage
 page-in directory p page limit short =
     by-commands directory p page (λ at after least r. at ≤ limit → FaultBy limit r)
-    (λ at after least number known h. (known, h))
+    (λ at after least number known h. (of-page number known, h))
     (λ at after least j h. tt)
     (λ at after least v j r k h. after-station limit v r (k (omega arith)))
     (λ at after least code m j r k h. after-move limit m r (k (omega (arith, j .0 .ends))))

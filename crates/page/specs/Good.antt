@@ -16,13 +16,12 @@ stationsFrom p i (d ∷ ds) = let rest = stationsFrom p (suc i) ds in pick (eqb 
 abbrev pub stationsOn : List ℕ → ℕ → List ℕ
 stationsOn directory p = stationsFrom p 0 directory
 
--- "Targets of one station rise strictly, are below N and differ from the station itself"; "time .. 1 to 65,535". C-11:
--- a limit is 1 to 65,535 too, and 0 where there is none.
+-- "Targets of one station rise strictly, are below N and differ from the station itself"; a time is at most 65,535, and
+-- "Time 0 is accepted" (C-15). C-11: a limit is 1 to 65,535, and 0 where there is none.
 pub record GoodMove (size own least : ℕ) (m : Move) : Type 0 where
   pub rising : least ≤ m .target
   pub below : m .target < size
   pub other : m .target ≡ own → ⊥
-  pub timed : 0 < m .time
   pub time-fits : m .time < 65536
   pub limit-fits : m .limit < 65536
 

@@ -32,7 +32,7 @@ data Known (q : Query) (station : ℕ) : Answer → Type 0 where
   least : (n : ℕ) → n ≤ 134150145 → LeadsTo q station n → ((c : ℕ) → LeadsTo q station c → n ≤ c) → AllGood q
       → Known q station (time n)
   none : ((c : ℕ) → LeadsTo q station c → ⊥) → AllGood q → Known q station unreached
-  refusal : (number : ℕ) → number ≤ 18 → number ≢ 7 → Known q station (turnedDown number)
+  refusal : (number : ℕ) → number ≤ 18 → number ≢ 7 → number ≢ 13 → Known q station (turnedDown number)
 
 module _ (q : Query) (station : ℕ) (bytes : Bytes (q .image)) where
   abbrev n : ℕ
@@ -45,7 +45,7 @@ module _ (q : Query) (station : ℕ) (bytes : Bytes (q .image)) where
   by-number : (number : ℕ) → Numbered q blank number → Known q station (turnedDown number)
   by-number number k =
       refusal number (k .most)
-      (λ is. let short = k .seven is in absurd (true≢false (sym (short .1) ∙ never-short (short .0))))
+      (λ is. let short = k .seven is in absurd (true≢false (sym (short .1) ∙ never-short (short .0)))) (k .not-13)
 
   by-time : station < n → found q .reply .outcome ≡ accepted
       → Known q station (answerBy accepted (getD (found q .tables .times) station noTime))
@@ -68,9 +68,9 @@ module _ (q : Query) (station : ℕ) (bytes : Bytes (q .image)) where
   known-past : Known q station (answerBy (afterHeading (headingCheck (q .image)) (refused 6 nowhere)) 0)
   known-past =
       heading-says (λ o. Known q station (answerBy (afterHeading o (refused 6 nowhere)) 0))
-      (λ number few. refusal number (omega arith) (λ is. omega arith))
-      (λ at. refusal 5 (lit≤ tt) (λ is. omega arith))
-      (refusal 6 (lit≤ tt) (λ is. omega arith))
+      (λ number few. refusal number (omega arith) (λ is. omega arith) (λ is. omega arith))
+      (λ at. refusal 5 (lit≤ tt) (λ is. omega arith) (λ is. omega arith))
+      (refusal 6 (lit≤ tt) (λ is. omega arith) (λ is. omega arith))
       (q .image)
 
   known-on-map : station < n → (o : Outcome) → found q .reply .outcome ≡ o → RefusalNumbered q blank o
@@ -86,6 +86,13 @@ module _ (q : Query) (station : ℕ) (bytes : Bytes (q .image)) where
       rw (answer-on-map q station there)
       (known-on-map there (found q .reply .outcome) refl (search-numbered q blank true bytes)))
       (le-or-lt n station)
+
+  -- C-15: "13 no longer occurs"
+  pub panel-not-13 : answerTo q station ≡ turnedDown 13 → ⊥
+  panel-not-13 e = numbered (subst (Known q station) e known)
+    where
+      numbered : Known q station (turnedDown 13) → ⊥
+      numbered (refusal number most other not-13) = not-13 refl
 
 -- An answer as it is handed over, which is exactly what is known and can be read in one way only.
 module _ (q : Query) (station : ℕ) {A : Type 0} (answer : Answer → A) (Reads : A → Answer → Type 0)
@@ -103,19 +110,19 @@ module _ (q : Query) (station : ℕ) {A : Type 0} (answer : Answer → A) (Reads
     none-of (none no-walk-leads good) = no-walk-leads
 
     not-seven : Known q station (turnedDown 7) → ⊥
-    not-seven (refusal number most other) = other refl
+    not-seven (refusal number most other not-13) = other refl
 
     no-walk : (b : Answer) → Known q station b → Reads (answer a) b → NotRefused q station (Reads (answer a))
         → ((c : ℕ) → LeadsTo q station c → ⊥) → Reads (answer a) unreached
     no-walk b (least t most walk no-less good) reads not-refused lacking = absurd (lacking t walk)
     no-walk b (none no-walk-leads good) reads not-refused lacking = reads
-    no-walk b (refusal number most other) reads not-refused lacking = absurd (not-refused number reads)
+    no-walk b (refusal number most other not-13) reads not-refused lacking = absurd (not-refused number reads)
 
     all-good : (b : Answer) → Known q station b → Reads (answer a) b → NotRefused q station (Reads (answer a))
         → AllGood q
     all-good b (least t most walk no-less good) reads not-refused = good
     all-good b (none no-walk-leads good) reads not-refused = good
-    all-good b (refusal number most other) reads not-refused = absurd (not-refused number reads)
+    all-good b (refusal number most other not-13) reads not-refused = absurd (not-refused number reads)
 
     promised : a ≡ answerTo q station → Promised q station answer Reads (answer a)
     promised is = record {
@@ -136,12 +143,12 @@ module _ (q : Query) (station : ℕ) (bytes : Bytes (q .image)) where
   inside-exact : (a : Answer) → Known q station a → ReadInside (inside a) a
   inside-exact a (least t most walk no-less good) = tenths (float t) t (float-is t (omega arith))
   inside-exact a (none lacking good) = read.none
-  inside-exact a (refusal number most other) = read.number number
+  inside-exact a (refusal number most other not-13) = read.number number
 
   outside-exact : (a : Answer) → Known q station a → ReadOutside (outside (inside a)) a
   outside-exact a (least t most walk no-less good) = float-is t (omega arith)
   outside-exact a (none lacking good) = minus-is 1 (lit≤ tt)
-  outside-exact a (refusal number most other) = minus-is (100 + number) (omega arith)
+  outside-exact a (refusal number most other not-13) = minus-is (100 + number) (omega arith)
 
   pub inside-promised : (r : Shown) → r ≡ inside (answerTo q station) → InsidePromised q station r
   inside-promised r is =

@@ -1,12 +1,13 @@
--- The numbers of a search's refusals: 18 at most, and 7 only where a table is too short.
-use Rattle.common.proofs.Ground.{_≡_, refl, Bool, true, ℕ, _≤_, arith, lit≤, leb}
+-- The numbers of a search's refusals: 18 at most, 7 only where a table is too short, and never 13 (C-15: "13 no longer
+-- occurs").
+use Rattle.common.proofs.Ground.{_≡_, _≢_, refl, subst, Bool, true, ℕ, _≤_, arith, lit≤, leb}
 use Rattle.common.proofs.Cases.{by-pick}
 use Rattle.net.specs.Net.{bad}
 use Rattle.net.specs.Search as net
 use Rattle.net.specs.Search.{State, Halt, going}
 use Rattle.net.specs.Run.{searchOf}
 use Rattle.image.specs.Bytes.{Bytes}
-use Rattle.image.specs.Image.{Outcome, accepted, refused, stationCount, headingCheck, afterHeading}
+use Rattle.image.specs.Image.{Place, Outcome, accepted, refused, stationCount, headingCheck, afterHeading}
 use Rattle.image.proofs.Heading.{heading-says}
 use Rattle.map.proofs.Offered.{bad-page}
 use Rattle.reply.specs.Reply.{Query, frameOf, pagesOf, Lent, ended, tooShort, sixOrSeven, callCheck, onMap}
@@ -20,14 +21,16 @@ module _ (q : Query) (t : Lent) where
 
   pub record Numbered (number : ℕ) : Type 0 where
     pub most : number ≤ 18
+    pub not-13 : number ≢ 13
     pub seven : number ≡ 7 → (headingCheck (q .image) ≡ accepted) × (tooShort n t ≡ true)
 
   abbrev pub RefusalNumbered : Outcome → Type 0
   RefusalNumbered accepted = Unit {0}
   RefusalNumbered (refused number place) = Numbered number
 
-  other-than-7 : (number : ℕ) → number ≤ 18 → (number ≡ 7 → ⊥) → Numbered number
-  other-than-7 number most other = record { most = most; seven = λ is. absurd (other is) }
+  other-than-7 : (number : ℕ) → number ≤ 18 → number ≢ 13 → number ≢ 7 → Numbered number
+  other-than-7 number most not-13 other =
+      record { most = most; not-13 = not-13; seven = λ is. absurd (other is) }
 
   check-numbered : RefusalNumbered (callCheck q t)
   unfolding callCheck
@@ -35,12 +38,13 @@ module _ (q : Query) (t : Lent) where
       let Says : Outcome → Type 0 = λ o. headingCheck (q .image) ≡ o
       → RefusalNumbered (afterHeading o (sixOrSeven n (q .source) (tooShort n t))) in
       heading-says Says
-      (λ number l e. other-than-7 number (omega arith) (λ is. omega arith))
-      (λ station e. other-than-7 5 (lit≤ tt) (λ is. omega arith))
+      (λ number l e. other-than-7 number (omega arith) (λ is. omega arith) (λ is. omega arith))
+      (λ station e. other-than-7 5 (lit≤ tt) (λ is. omega arith) (λ is. omega arith))
       (λ e.
-      by-pick RefusalNumbered (leb n (q .source)) (λ past. other-than-7 6 (lit≤ tt) (λ is. omega arith)) λ inside.
+      by-pick RefusalNumbered (leb n (q .source))
+      (λ past. other-than-7 6 (lit≤ tt) (λ is. omega arith) (λ is. omega arith)) λ inside.
       by-pick RefusalNumbered (tooShort n t)
-      (λ short. record { most = lit≤ tt; seven = λ is. (e, short) })
+      (λ short. record { most = lit≤ tt; not-13 = λ is. omega arith; seven = λ is. (e, short) })
       (λ long. tt))
       (q .image) refl
 
@@ -49,8 +53,8 @@ module _ (q : Query) (t : Lent) where
       → RefusalNumbered ((ended h (frameOf q) s t) .reply .outcome)
   ended-numbered going s e why = tt
   ended-numbered (net.refused number p offset) s e why =
-      let known = bad-page (q .strip) (q .image) p number offset (why number p offset e) in
-      other-than-7 number (known .1) (λ is. omega (arith, known .0))
+      let known = bad-page (q .strip) (q .image) p number offset (why number p offset e) .0 in
+      other-than-7 number (known .most) (known .not-13) (λ is. omega (arith, known .least))
 
   on-map-numbered : (df : Bool) → Bytes (q .image) → Admitted q t
       → RefusalNumbered ((onMap (searchOf df) q t) .reply .outcome)
@@ -68,3 +72,7 @@ module _ (q : Query) (t : Lent) where
           → RefusalNumbered ((afterCheck (searchOf df) q t o) .reply .outcome)
       by-check o (turned-down number place k) known = known
       by-check o (passed a) known = on-map-numbered df bytes a
+
+  pub search-not-13 : (df : Bool) → Bytes (q .image) → (place : Place)
+      → (searched (searchOf df) q t) .reply .outcome ≡ refused 13 place → ⊥
+  search-not-13 df bytes place e = (subst RefusalNumbered e (search-numbered df bytes)) .not-13 refl

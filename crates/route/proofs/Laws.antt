@@ -1,12 +1,13 @@
 -- What a caller may cite: what an answer `Found` says; that what the definition finds is a route, whose properties are
--- in proofs/Positions.antt, and the converse; that the route to a station on a route is its front part; and that a
--- chain which meets the source within n - 1 steps is found.
-use Rattle.common.proofs.Ground.{_≡_, refl, ap, sym, _∙_, Bool, true, false, List, [], _∷_, _++_, ℕ, zero, suc, _+_}
-use Rattle.common.proofs.Ground.{_<_, _≤_, arith, length, take, drop, length-take, length-append, getD-append-seam}
-use Rattle.common.proofs.Ground.{take-append-add, eqb, ltb, leb, eqb-true, eqb-false, ltb-true, ltb-false, leb-true}
-use Rattle.common.proofs.Ground.{leb-false, le-ltb}
+-- in proofs/Positions.antt, and the converse; that the route to a station on a route is its front part; that a chain
+-- which meets the source within n - 1 steps is found; and so that every route by a search's predecessors is.
+use Rattle.common.proofs.Ground.{_≡_, _≢_, refl, ap, sym, _∙_, Bool, true, false, ⊎-elim, List, [], _∷_, _++_, ℕ, zero}
+use Rattle.common.proofs.Ground.{suc, _+_, _<_, _≤_, arith, length, take, drop, length-take, length-append}
+use Rattle.common.proofs.Ground.{getD-append-seam, take-append-add, eqb, ltb, leb, eqb-true, eqb-false, ltb-true}
+use Rattle.common.proofs.Ground.{ltb-false, leb-true, leb-false, le-ltb, List·getD-eq-default}
 use Rattle.common.specs.Numbers.{sourceMark, noPred}
-use Rattle.common.specs.Chains.{predAt, back}
+use Rattle.common.specs.Chains.{predAt, back, ChainsEnd}
+use Rattle.common.proofs.Cases.{le-or-lt}
 use Rattle.route.specs.Route.{Chain, whole, broken, chain, trail}
 use Rattle.route.specs.Route.{Outcome, found, noRoute, refused, fitted, outcome, RouteTo, begins, extends}
 use Rattle.route.specs.Route.{stations, unreached, turnedDown, Handed, handedBack, returned, routeCall}
@@ -156,3 +157,38 @@ steps-found preds station room k few within below s fits =
       short = omega (arith, size);
       fits = omega (arith, size);
     })
+
+-- C-15: where every chain of predecessors ends at the source, as in the table that a search leaves (its clause
+-- `chains`), every station that has a predecessor has a route, and with room for n stations it is found.
+module _ (preds : List ℕ) (source : ℕ) (few : length preds ≤ 2048) (ends : ChainsEnd (length preds) source preds) where
+  no-station : (v : ℕ) → length preds ≤ v → predAt preds v ≡ noPred
+  no-station v past = List·getD-eq-default preds noPred {n = v} past
+
+  source-inside : source < length preds
+  source-inside =
+      ⊎-elim (λ past. absurd (omega (arith, ends .source-entry, no-station source past))) (λ inside. inside)
+      (le-or-lt (length preds) source)
+
+  -- from a number that is no station no steps lead to one
+  outside-stays : (k v : ℕ) → length preds ≤ v → length preds ≤ back preds k v
+  unfolding back
+  outside-stays zero v past = past
+  outside-stays (suc k) v past = outside-stays k (predAt preds v) (omega (arith, no-station v past))
+
+  -- so each step of a chain that ends at the source is a station
+  all-inside : (k v : ℕ) → back preds k v ≡ source → (j : ℕ) → j ≤ k → back preds j v < length preds
+  unfolding back
+  all-inside k v leads zero h =
+      ⊎-elim (λ past. absurd (omega (arith, source-inside, outside-stays k v past))) (λ inside. inside)
+      (le-or-lt (length preds) v)
+  all-inside zero v leads (suc j) h = absurd (omega arith)
+  all-inside (suc k) v leads (suc j) h = all-inside k (predAt preds v) leads j (omega arith)
+
+  pub chains-route : (station room : ℕ) → predAt preds station ≢ noPred → length preds ≤ room
+      → (k : ℕ) × (outcome preds station room ≡ found (trail preds (suc k) station))
+  chains-route station room has wide =
+      let (k, within, leads) = ends .ends station has in (
+        k,
+        steps-found preds station room k few within (all-inside k station leads)
+            (ap (predAt preds) leads ∙ ends .source-entry) (omega arith),
+      )

@@ -12,13 +12,12 @@ use Rattle.rules.specs.Rules.{judgeEnd, judgeStation, moveFault, judgeMo
 use Rattle.rules.specs.Rules.{judgedAt}
 use Rattle.commands.proofs.Lengths.{OfPage, Stands, stands}
 
--- The rules that a move keeps: 11, 12 and 13, and a `03` 18.
+-- The rules that a move keeps: 11 and 12, and a `03` 18.
 pub record MoveKeeps (size after least code : ℕ) (m : Move) : Type 0 where
   pub begun : after ≢ 0
   pub below : m .target < size
   pub other : m .target + 1 ≢ after
   pub rising : least ≤ m .target
-  pub timed : m .time ≢ 0
   pub limited : code ≡ 3 → m .limit ≢ 0
 
 module _ (size after least : ℕ) (m : Move) where
@@ -30,13 +29,11 @@ module _ (size after least : ℕ) (m : Move) where
       by-pick Kept (eqb after 0) (λ none e. absurd (omega arith)) λ begun.
       by-pick Kept (leb size (m .target)) (λ past e. absurd (omega arith)) λ below.
       by-pick Kept (eqb (m .target + 1) after) (λ own e. absurd (omega arith)) λ other.
-      by-pick Kept (ltb (m .target) least) (λ falling e. absurd (omega arith)) λ rising.
-      by-pick Kept (eqb (m .time) 0) (λ no-time e. absurd (omega arith)) (λ timed e. record {
+      by-pick Kept (ltb (m .target) least) (λ falling e. absurd (omega arith)) (λ rising e. record {
         begun = eqb-false after 0 begun;
         below = leb-false size (m .target) below;
         other = eqb-false (m .target + 1) after other;
         rising = ltb-false (m .target) least rising;
-        timed = eqb-false (m .time) 0 timed;
         limited = limited;
       })
 
@@ -47,8 +44,7 @@ module _ (size after least : ℕ) (m : Move) where
       by-pick Numbered (eqb after 0) (λ none some. tt) λ begun.
       by-pick Numbered (leb size (m .target)) (λ past some. tt) λ below.
       by-pick Numbered (eqb (m .target + 1) after) (λ own some. tt) λ other.
-      by-pick Numbered (ltb (m .target) least) (λ falling some. tt) λ rising.
-      by-pick Numbered (eqb (m .time) 0) (λ no-time some. tt) (λ timed some. absurd (omega arith))
+      by-pick Numbered (ltb (m .target) least) (λ falling some. tt) (λ rising some. absurd (omega arith))
 
   no-fault : (code : ℕ) → MoveKeeps size after least code m → moveFault size after least m ≡ 0
   unfolding moveFault

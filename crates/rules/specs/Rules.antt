@@ -30,20 +30,20 @@ judgeEnd size due rest = pick (ltb due size) (Fault 10) (pick (allZero rest) End
 unfoldable pub judgeStation : ℕ → ℕ → ℕ → Command
 judgeStation size due v = pick (leb size v) (Fault 10) (pick (eqb v due) (Station v) (Fault 10))
 
--- "for `02`: 11, 12, 13": before a station; target not below N, own station, or not rising; time 0. 0 if none holds.
+-- "for `02`: 11, 12": before a station; target not below N, own station, or not rising. 0 if none holds. C-15: "Time 0
+-- is accepted in `02` and `03`, so 13 no longer occurs."
 unfoldable pub moveFault : ℕ → ℕ → ℕ → Move → ℕ
 moveFault size after least m =
     pick (eqb after 0) 11
     (pick (leb size (m .target)) 12
     (pick (eqb (m .target + 1) after) 12
-    (pick (ltb (m .target) least) 12
-    (pick (eqb (m .time) 0) 13 0))))
+    (pick (ltb (m .target) least) 12 0)))
 
 unfoldable pub judgeMove : ℕ → ℕ → ℕ → Move → Command
 judgeMove size after least m =
     let fault = moveFault size after least m in pick (ltb 0 fault) (Fault fault) (MoveTo m)
 
--- C-11: `03` "under all rules of `02`"; "a limit of 0 with 18, tried after 13"
+-- C-11: `03` "under all rules of `02`"; "a limit of 0 with 18", tried after these
 unfoldable pub judgeLimited : ℕ → ℕ → ℕ → Move → Command
 judgeLimited size after least m =
     let fault = moveFault size after least m in

@@ -49,7 +49,7 @@ fn judge_station(directory: &[u8], places: &[u16], past: usize, due: usize, v: u
     }
 }
 
-// For `02` and `03`: 11, 12, 13; 0 for none of these.
+// For `02` and `03`: 11, 12; 0 for none of these. Any time will do, and 0 too.
 fn move_fault(size: usize, after: usize, least: usize, m: Move) -> u8
     ensures value { λ r. ⌜ r ≡ moveFault size after least m ⌝ }
 {
@@ -65,9 +65,6 @@ fn move_fault(size: usize, after: usize, least: usize, m: Move) -> u8
     }
     if target < least {
         return 12;
-    }
-    if m.time == 0 {
-        return 13;
     }
     0
 }

@@ -1,9 +1,10 @@
 -- What a search promises (specs/Promises.antt) holds of what the definition hands back: a call is refused before any
 -- page, or its map is a sound net and the laws of the net speak of it. The tables' first N entries are those of the
 -- net's search, and the list's first entries its page list.
-use Rattle.common.proofs.Ground.{_≡_, refl, ap, sym, _∙_, Bool, true, false, List, List·Memᴰ, ℕ}
+use Rattle.common.proofs.Ground.{_≡_, refl, ap, sym, subst, _∙_, Bool, true, false, List, List·Memᴰ, ℕ}
 use Rattle.common.proofs.Ground.{_≤_, arith, length, take}
 use Rattle.common.specs.Costs.{NoMore}
+use Rattle.common.specs.Chains.{ChainsEnd}
 use Rattle.common.specs.Window.{placed}
 use Rattle.common.proofs.Cases.{never}
 use Rattle.common.proofs.Windows.{placed-window}
@@ -12,6 +13,7 @@ use Rattle.net.specs.Search as net
 use Rattle.net.specs.Search.{State, Halt, going, timeTable, moveTable, reached, plainSearch, dfSearch}
 use Rattle.net.specs.Demands.{timeAt, movesAt}
 use Rattle.net.specs.Run.{searchOf}
+use Rattle.net.proofs.Chains.{chains-end}
 use Rattle.net.proofs.Laws.{same-halt, df-list}
 use Rattle.net.proofs.Ways.{same-tables, same-reached, fewer-moves-no-more}
 use Rattle.image.specs.Bytes.{Bytes}
@@ -23,10 +25,11 @@ use Rattle.map.specs.Map.{offered, mapPage}
 use Rattle.map.proofs.Offered.{goes-shorter}
 use Rattle.reply.specs.Reply.{Query, withImage, withStrip, frameOf, pagesOf, Lent, Handed, reply, ended}
 use Rattle.reply.specs.Reply.{tooShort, callCheck, onMap, afterCheck, searched, listOf}
-use Rattle.search.specs.Promises.{SameLengths, firsts, TimesAreLeast, PageIsFirstBad}
+use Rattle.search.specs.Promises.{SameLengths, firsts, TimesAreLeast, ChainsEndAtSource, PageIsFirstBad}
 use Rattle.search.specs.Promises.{ListAgainstDijkstra, Promised, DfPromised}
 use Rattle.reply.proofs.Checking.{Admitted, Decided, turned-down, passed, decided, passes}
-use Rattle.reply.proofs.Searches.{found, local-of, size-of, sound-of, least-costs-of, least-of, refused-of}
+use Rattle.reply.proofs.Searches.{found, local-of, size-of, few-stations, sound-of, least-costs-of, least-of}
+use Rattle.reply.proofs.Searches.{refused-of}
 
 -- the front that was written
 front-of : (table entries : List ℕ) (n : ℕ) → length entries ≡ n → take n (placed table 0 entries) ≡ entries
@@ -74,6 +77,12 @@ module _ (q : Query) (t : Lent) (a : Admitted q t) (bytes : Bytes (q .image)) wh
   least-on-map df e =
       let g = over-on-map df e in
       rw (accepted-as df t g, fronts df t g .0, fronts df t g .1, fronts df t g .2) (least-of q t a bytes df g)
+
+  -- C-15
+  chains-on-map : (df : Bool) → ChainsEndAtSource q (onMap (searchOf df) q t)
+  chains-on-map df e =
+      subst (λ n. ChainsEnd n (q .source) (firsts q ((onMap (searchOf df) q t) .tables .preds))) (size-of q t a)
+      (chains-end (frameOf q) (pagesOf q) (q .source) (omega (arith, few-stations q t a)) (least-on-map df e))
 
   -- which page is refused
   refused-on-map : (df : Bool) → PageIsFirstBad q (onMap (searchOf df) q t)
@@ -174,12 +183,15 @@ no-more-on-map df q t a bytes strip less other a′ e e′ v =
 -- All promises, by what 1 to 7 decide.
 module _ (q : Query) (t : Lent) (bytes : Bytes (q .image)) where
   either-search : (df : Bool) (o : Outcome) → Decided q t o
-      → TimesAreLeast q (afterCheck (searchOf df) q t o) × PageIsFirstBad q (afterCheck (searchOf df) q t o)
+      → TimesAreLeast q (afterCheck (searchOf df) q t o) × ChainsEndAtSource q (afterCheck (searchOf df) q t o)
+      × PageIsFirstBad q (afterCheck (searchOf df) q t o)
   either-search df o (turned-down number place k) = (
+    λ e. never (cc),
     λ e. never (cc),
     λ n p at e. let same : place ≡ on-page p at = cc in absurd (rw same at k),
   )
-  either-search df o (passed a) = (least-on-map q t a bytes df, refused-on-map q t a bytes df)
+  either-search df o (passed a) =
+      (least-on-map q t a bytes df, chains-on-map q t a bytes df, refused-on-map q t a bytes df)
 
   no-more : (df : Bool) (o : Outcome) → Decided q t o → (afterCheck (searchOf df) q t o) .reply .outcome ≡ accepted
       → (strip : ℕ) (other : Lent) → strip ≤ q .strip
@@ -215,7 +227,8 @@ module _ (q : Query) (t : Lent) (bytes : Bytes (q .image)) where
   promised-of df h is = rw is (record {
     outcome = refl;
     times = either-search df (callCheck q t) (decided q t) .0;
-    refused = either-search df (callCheck q t) (decided q t) .1;
+    chains = either-search df (callCheck q t) (decided q t) .1;
+    refused = either-search df (callCheck q t) (decided q t) .2;
     images = images-agree df q t;
     lengths = λ e strip other less e′ v. no-more df (callCheck q t) (decided q t) e strip other less e′ v .0;
   })

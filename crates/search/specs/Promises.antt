@@ -6,6 +6,7 @@ use mathlib.Core.List.{List, [], _∷_, _++_, List·Memᴰ}
 use Prim.Native.Nat.{ℕ, _≤_}
 use lib.ListN.{length, take, getD}
 use Rattle.common.specs.Numbers.{noTime}
+use Rattle.common.specs.Chains.{ChainsEnd}
 use Rattle.net.specs.Search.{plainSearch, dfSearch}
 use Rattle.net.specs.Demands.{LeastTimes, RefusedPage, ListOf}
 use Rattle.image.specs.Image.{accepted, refused, on-page, stationCount, AgreeOnHeading, AgreeOnDirectory, AgreeOnPage}
@@ -31,6 +32,12 @@ module _ (q : Query) where
       h .reply .outcome ≡ accepted
       → LeastTimes (frameOf q) (pagesOf q) (q .source) (firsts (h .tables .times)) (firsts (h .tables .moves))
       (firsts (h .tables .preds)) (h .reply .reached)
+
+  -- C-15: "every predecessor chain still ends at the source"
+  abbrev pub ChainsEndAtSource : Handed → Type 0
+  ChainsEndAtSource h =
+      h .reply .outcome ≡ accepted
+      → ChainsEnd (stationCount (q .image)) (q .source) (firsts (h .tables .preds))
 
   -- "the refused page is that of the station, of all on bad pages, least by time and then number over walks that leave
   -- only stations on good pages", C-14: by time, then moves, and then number; it stands last in the list
@@ -80,6 +87,7 @@ module _ (q : Query) where
 pub record Promised (search : NetSearch) (q : Query) (t : Lent) (h : Handed) : Type 0 where
   pub outcome : h ≡ searched search q t
   pub times : TimesAreLeast q h
+  pub chains : ChainsEndAtSource q h
   pub refused : PageIsFirstBad q h
   pub images : SameOnListedPages q search t h
   pub lengths : NoLessThanShorter q search h

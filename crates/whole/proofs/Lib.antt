@@ -1,5 +1,5 @@
 -- The laws behind the functions' proofs. Other crates cite them as Rattle.whole.proofs.NAME.
 
--- The loop over the pages; how large the numbers of a refusal can be.
+-- The loop over the pages; what the check can say.
 pub mod Pages
-pub mod Offsets
+pub mod Outcomes

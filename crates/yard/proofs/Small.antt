@@ -12,7 +12,7 @@ use Rattle.net.proofs.Basics.Count.{count-le}
 use Rattle.image.specs.Bytes.{Bytes}
 use Rattle.image.specs.Image.{Outcome, accepted, refused, Place, nowhere, at-station, on-page}
 use Rattle.whole.specs.Check.{wholeCheck}
-use Rattle.whole.proofs.Offsets.{PlaceBy256, whole-by-256}
+use Rattle.whole.proofs.Outcomes.{PlaceBy256, whole-by-256}
 use Rattle.route.specs.Route as route
 use Rattle.common.specs.Chains.{predAt}
 use Rattle.route.specs.Route.{Chain, whole, broken, lengthened, chain}
@@ -55,7 +55,7 @@ module _ (q : Query) (t : Lent) where
       (omega (arith, count-le (hasTime (frameOf q) s) ((frameOf q) .size))) (omega arith)
   ended-small (net.refused number p offset) s e few short why =
       sized number (length (s .pages)) 0 p offset (omega arith) (omega arith)
-      (bad-page (q .strip) (q .image) p number offset (why number p offset e) .2)
+      (bad-page (q .strip) (q .image) p number offset (why number p offset e) .1)
 
   on-map-small : (df : Bool) → Admitted q t → Bytes (q .image) → Small (ofSearch ((onMap (searchOf df) q t) .reply))
   unfolding onMap

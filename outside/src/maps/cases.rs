@@ -37,10 +37,21 @@ pub fn draw(random: &mut Random) -> Case {
     Case { kind, image, source, strips, stations: map.stations(), known }
 }
 
+/// A station of the map, now and then one that it does not have. Where moves take no time it is often one that such
+/// moves lead to and from, as those of a turntable do.
 fn source(map: &Map, random: &mut Random) -> u16 {
     let past = random.from_to(map.stations(), 65_535);
-    let source = if random.one_in(30) { random.pick(&[map.stations(), past]) } else { random.below(map.stations()) };
-    source as u16
+    if random.one_in(30) {
+        return random.pick(&[map.stations(), past]) as u16;
+    }
+    let handover = |step: &&Move| step.time == 0;
+    let onward = |target: &u16| map.moves[usize::from(*target)].iter().any(|step| handover(&step));
+    let targets = map.moves.iter().flatten().filter(handover).map(|step| step.target);
+    let between: Vec<u16> = targets.filter(onward).collect();
+    if between.is_empty() || random.one_in(2) {
+        return random.below(map.stations()) as u16;
+    }
+    random.pick(&between)
 }
 
 /// Next to a limit of the map, if it has one; else the least, the greatest or any.

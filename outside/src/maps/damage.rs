@@ -1,5 +1,5 @@
-//! Damage of every kind, 1 to 5 to a whole image, 8 to 14 and 18 to a page. Page damage is made on the drawing, so that
-//! the refusal's number and offset are known without a page reader.
+//! Damage of every kind, 1 to 5 to a whole image, 8 to 12, 14 and 18 to a page. Page damage is made on the drawing, so
+//! that the refusal's number and offset are known without a page reader.
 
 use super::{page_bytes, Command, Map, MOST_PAGES, MOST_STATIONS, PAGE_BYTES};
 use crate::random::Random;
@@ -18,17 +18,16 @@ struct Page<'a> {
     commands: Vec<Command>,
 }
 
-/// Spoils a page by one of the refusals 8 to 14 and 18 (not all of them can be had on every page; 11 always can).
+/// Spoils a page by one of the refusals 8 to 12, 14 and 18 (not all of them can be had on every page; 11 always can).
 pub fn spoil_page(map: &Map, page: usize, random: &mut Random) -> Spoiled {
     let drawing = Page { map, stations: map.stations_of(page), commands: map.commands(page) };
     loop {
-        let spoiled = match random.pick(&[8, 9, 10, 11, 12, 13, 14, 18]) {
+        let spoiled = match random.pick(&[8, 9, 10, 11, 12, 14, 18]) {
             8 => drawing.unknown_code(random),
             9 => drawing.overfull(random),
             10 => drawing.wrong_station(random),
             11 => drawing.move_first(random),
             12 => drawing.wrong_target(random),
-            13 => drawing.no_time(random),
             14 => drawing.after_end(random),
             _ => drawing.no_limit(random),
         };
@@ -73,7 +72,7 @@ impl Page<'_> {
             let others = (0..self.map.stations() as u16).filter(|&target| target != station);
             let kept = others.filter(|_| random.below(3) < keep).collect::<Vec<_>>();
             commands.extend(kept.iter().map(|&target| {
-                let (time, limit) = (random.from_to(1, 65_535) as u16, random.from_to(1, 65_535) as u16);
+                let (time, limit) = (random.below(65_536) as u16, random.from_to(1, 65_535) as u16);
                 Command::Move(Move { target, time, limit: random.pick(&[None, Some(limit)]) })
             }));
         }
@@ -138,7 +137,7 @@ impl Page<'_> {
         Some(spoiled(random, page_bytes(&commands), 11, 0, first.length()))
     }
 
-    /// Not below N, the station itself, or not above the target before; with a good time and limit or with 0.
+    /// Not below N, the station itself, or not above the target before; at any time and with a good limit or with 0.
     fn wrong_target(&self, random: &mut Random) -> Option<Spoiled> {
         let (at, step) = self.some_move(random)?;
         let target = match (random.below(3), self.commands[at - 1]) {
@@ -161,16 +160,11 @@ impl Page<'_> {
         stations.next().expect("every move of a good page follows a station")
     }
 
-    /// With a good limit or with 0.
-    fn no_time(&self, random: &mut Random) -> Option<Spoiled> {
-        let (at, step) = self.some_move(random)?;
-        let limit = random.pick(&[step.limit, step.limit, Some(0)]);
-        self.with(random, at, Command::Move(Move { time: 0, limit, ..step }), 13)
-    }
-
+    /// At any time, 0 too, which is no fault of its own.
     fn no_limit(&self, random: &mut Random) -> Option<Spoiled> {
         let (at, step) = self.some_move(random)?;
-        self.with(random, at, Command::Move(Move { limit: Some(0), ..step }), 18)
+        let time = random.pick(&[step.time, step.time, 0]);
+        self.with(random, at, Command::Move(Move { time, limit: Some(0), ..step }), 18)
     }
 
     fn after_end(&self, random: &mut Random) -> Option<Spoiled> {

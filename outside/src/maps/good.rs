@@ -1,6 +1,6 @@
 //! Good maps of many shapes: small and full, with many equal sums, with pages that are entered again and again,
-//! chains, stations without moves, pages without stations, times of 1 and of 65,535, moves without and with limits; and
-//! those of `yards`.
+//! chains, stations without moves, pages without stations, times of 0, 1 and 65,535, moves without and with limits; and
+//! those of `yards`. One in four has handovers, moves that take no time (document 02, "Handover without time").
 
 use super::{yards, Map, MOST_ON_A_PAGE, MOST_PAGES, MOST_STATIONS};
 use crate::random::Random;
@@ -45,10 +45,20 @@ enum Pace {
 /// What the moves of a map are like.
 pub struct Terms {
     pace: Pace,
+    handovers: Handovers,
     /// So many moves of four have a limit.
     limited: usize,
     /// The length that most limits lie next to: a strip of about that length finds some moves open and some closed.
     middle: u16,
+}
+
+/// Which moves take no time, whatever the pace.
+#[derive(Clone, Copy)]
+struct Handovers {
+    /// So many of eight, wherever they lead.
+    of_eight: usize,
+    /// Beside them those of turntables and longer cycles, for which so many of eight stations are drawn.
+    in_cycles: usize,
 }
 
 /// Chains laid before any other move.
@@ -64,6 +74,18 @@ const LAYOUTS: [Layout; 4] = [Layout::Blocks, Layout::RoundRobin, Layout::Scatte
 const REACHES: [Reach; 7] =
     [Reach::Any, Reach::Near, Reach::Forward, Reach::Back, Reach::SamePage, Reach::OtherPage, Reach::Hub];
 const PACES: [Pace; 7] = [Pace::One, Pace::Most, Pace::Few, Pace::Small, Pace::Wide, Pace::Distance, Pace::Square];
+const NO_HANDOVERS: Handovers = Handovers { of_eight: 0, in_cycles: 0 };
+/// All moves, most, half, half and cycles, and cycles alone, few or many.
+const HANDOVERS: [Handovers; 6] = [
+    Handovers { of_eight: 8, in_cycles: 0 },
+    Handovers { of_eight: 7, in_cycles: 0 },
+    Handovers { of_eight: 4, in_cycles: 0 },
+    Handovers { of_eight: 4, in_cycles: 2 },
+    Handovers { of_eight: 0, in_cycles: 2 },
+    Handovers { of_eight: 0, in_cycles: 8 },
+];
+/// The stations of a cycle of handovers: two are a turntable's.
+const CYCLES: [usize; 7] = [2, 2, 2, 2, 3, 4, 7];
 const CHAINS: [Chain; 5] = [Chain::None, Chain::None, Chain::Up, Chain::Down, Chain::Ring];
 
 /// A good map of any shape.
@@ -77,6 +99,7 @@ pub fn draw(random: &mut Random) -> Map {
     let (stations, pages) = size(random, sort);
     let mut map = Map::new(pages, directory(random, stations, pages));
     let terms = terms(random);
+    lay_cycles(&mut map, random, &terms);
     if formed {
         return yards::draw(map, random, &terms);
     }
@@ -125,7 +148,27 @@ fn directory(random: &mut Random, stations: usize, pages: usize) -> Vec<u8> {
 fn terms(random: &mut Random) -> Terms {
     let any = random.from_to(1, 65_535) as u16;
     let middle = random.pick(&[1, 2, 8_120, 65_534, 65_535, any]);
-    Terms { pace: random.pick(&PACES), limited: random.from_to(0, 4), middle }
+    let handovers = if random.one_in(4) { random.pick(&HANDOVERS) } else { NO_HANDOVERS };
+    Terms { pace: random.pick(&PACES), handovers, limited: random.from_to(0, 4), middle }
+}
+
+/// Turntables and longer cycles of handovers, before any other move takes up the room: some of them on one page, some
+/// over several.
+fn lay_cycles(map: &mut Map, random: &mut Random, terms: &Terms) {
+    let mut left = (map.stations() * terms.handovers.in_cycles).div_ceil(8);
+    while left > 0 {
+        let count = random.pick(&CYCLES);
+        let reach = random.pick(&REACHES);
+        let mut cycle = vec![random.below(map.stations())];
+        for at in 1..count {
+            cycle.push(target(map, random, reach, cycle[at - 1]));
+        }
+        for (at, &from) in cycle.iter().enumerate() {
+            let limit = terms.some_limit(random);
+            map.add(from, cycle[(at + 1) % count], 0, limit);
+        }
+        left = left.saturating_sub(count);
+    }
 }
 
 fn lay_chain(map: &mut Map, random: &mut Random, terms: &Terms) {
@@ -194,7 +237,15 @@ impl Terms {
         (random.below(4) < self.limited).then(|| self.limit(random))
     }
 
+    /// Whether a move takes no time.
+    pub fn is_handover(&self, random: &mut Random) -> bool {
+        random.below(8) < self.handovers.of_eight
+    }
+
     fn time(&self, random: &mut Random, from: usize, target: usize) -> u16 {
+        if self.is_handover(random) {
+            return 0;
+        }
         let apart = from.abs_diff(target).max(1);
         let time = match self.pace {
             Pace::One => 1,

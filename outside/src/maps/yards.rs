@@ -58,12 +58,12 @@ fn numbers(random: &mut Random, stations: usize) -> Vec<usize> {
 }
 
 /// A ring of moves and little else. Where they are slow and there is nothing else, every source has the greatest times
-/// and numbers of moves that a map can have; in the others some moves pass a station in twice the time.
+/// and numbers of moves that a map can have; in the others some moves pass a station in twice the time, which may be 0.
 pub fn longest_ring(random: &mut Random) -> Map {
     let stations = random.from_to(MOST_STATIONS - 3, MOST_STATIONS);
     let dealt = random.one_in(2);
     let limit = random.pick(&[None, Some(65_535)]);
-    let unit = random.pick(&[65_535, 65_535, 32_767, 1]);
+    let unit = random.pick(&[65_535, 65_535, 32_767, 1, 0]);
     let page = |station| if dealt { station % MOST_PAGES } else { station * MOST_PAGES / stations };
     let mut map = Map::new(MOST_PAGES, (0..stations).map(|station| page(station) as u8).collect());
     let numbers = numbers(random, stations);
@@ -78,11 +78,14 @@ pub fn longest_ring(random: &mut Random) -> Map {
 }
 
 impl Yard<'_> {
-    /// A move from place to place over so many fields.
+    /// A move from place to place over so many fields, or one that takes no time.
     fn lay(&mut self, random: &mut Random, from: usize, target: usize, fields: usize) {
         let mut time = self.unit * fields;
         if self.uneven > 0 && random.one_in(self.uneven) {
             time = random.pick(&[time - 1, time + 1]).clamp(1, 65_535);
+        }
+        if self.terms.is_handover(random) {
+            time = 0;
         }
         let limit = self.terms.some_limit(random);
         self.map.add(self.stations[from], self.stations[target], time as u16, limit);

@@ -1,5 +1,5 @@
-//! "Map image" of document 01: heading, directory, pages, refusals 1 to 5 and 8 to 14, whole check; and the moves with
-//! limits of document 02, refusal 18.
+//! "Map image" of document 01: heading, directory, pages, refusals 1 to 5, 8 to 12 and 14, whole check; and of document
+//! 02 the moves with limits, refusal 18, and the moves of time 0, by which 13 is gone.
 
 use super::Answer;
 
@@ -131,15 +131,12 @@ fn read_page(bytes: &[u8], due: &[u16], station_count: usize) -> Result<Vec<Stat
     }
 }
 
-/// 11, 12, 13 and 18, in this order.
+/// 11, 12 and 18, in this order: "Time 0 is accepted in `02` and `03`, so 13 no longer occurs."
 fn move_fault(latest: Option<&Station>, step: Move, station_count: usize) -> Option<u32> {
     let Some(station) = latest else { return Some(11) };
     let rising = station.moves.last().is_none_or(|before| before.target < step.target);
     if usize::from(step.target) >= station_count || step.target == station.number || !rising {
         return Some(12);
-    }
-    if step.time == 0 {
-        return Some(13);
     }
     (step.limit == Some(0)).then_some(18)
 }

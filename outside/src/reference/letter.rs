@@ -1,6 +1,6 @@
 //! "The two searches" of document 01, by the letter: every choice is a look at all stations, every reference reads
 //! the page anew. Of the moves they use those that are open to the strip, and they compare by document 02's "Fewer
-//! lifts": "less means less time, then fewer moves".
+//! lifts": "less means less time, then fewer moves". So every move makes a way more, one of time 0 too.
 
 use super::image::{Fault, Image, Station};
 use super::{Answer, Query, Search, Tables, NO_MOVES, NO_PREDECESSOR, NO_TIME, SOURCE};
@@ -54,7 +54,7 @@ pub fn search(kind: Search, image: &[u8], query: Query, tables: Tables) -> Answe
     if ended.is_err() {
         run.states.fill(State::default());
     }
-    run.write(ended.is_ok(), tables);
+    run.write(tables);
     let count = run.list.len() as u32;
     match ended {
         Ok(()) => {
@@ -67,20 +67,31 @@ pub fn search(kind: Search, image: &[u8], query: Query, tables: Tables) -> Answe
     }
 }
 
-/// The list of a DF search that orders by time alone, as before "Fewer lifts": no move adds to the number of moves, and
-/// so all ways of one time are equal. The fuzzer counts where ours is another.
-pub fn df_list_by_time_alone(image: &Image, query: Query) -> Vec<u8> {
+/// What a search comes to that orders by time alone, as before "Fewer lifts": no move adds to the number of moves, and
+/// so all ways of one time are equal. Where moves of time 0 lead round, the source can then get a predecessor, and
+/// others can be each other's. The fuzzer counts where ours comes to something else.
+pub struct ByTimeAlone {
+    pub preds: Vec<u16>,
+    pub list: Vec<u8>,
+    /// The bad page that ended it.
+    pub refused: Option<usize>,
+}
+
+pub fn by_time_alone(kind: Search, image: &Image, query: Query) -> ByTimeAlone {
     let mut run = Run { lift: 0, ..Run::start(image, query) };
-    // The list stands at a bad page too.
-    let _ = run.steps(Search::Df);
-    run.list
+    let refused = run.steps(kind).err().map(|bad| bad.page);
+    let preds = run.states.iter().map(|state| state.predecessor.unwrap_or(NO_PREDECESSOR)).collect();
+    ByTimeAlone { preds, list: run.list, refused }
 }
 
 impl<'a> Run<'a> {
-    /// "At the start the source has time 0 and nothing is settled or fresh"; its way has no moves.
+    /// "At the start the source has time 0 and nothing is settled or fresh"; its way has no moves. Its predecessor is
+    /// 65,534 from the start and is not put back at the end: a cycle of moves of time 0 that leads back to it has to
+    /// leave it as it is, since "every predecessor chain still ends at the source".
     fn start(image: &'a Image<'a>, query: Query) -> Self {
         let mut states = vec![State::default(); image.stations];
-        states[usize::from(query.source)].sum = Some((0, 0));
+        let source = &mut states[usize::from(query.source)];
+        (source.sum, source.predecessor) = (Some((0, 0)), Some(SOURCE));
         Run { image, query, lift: 1, states, list: Vec::new() }
     }
 
@@ -158,15 +169,12 @@ impl<'a> Run<'a> {
     }
 
     /// Writes the first N entries of times, moves, predecessors and marks, and the list's count entries; no others.
-    fn write(&self, accepted: bool, tables: Tables) {
+    fn write(&self, tables: Tables) {
         for (station, state) in self.states.iter().enumerate() {
             tables.times[station] = state.sum.map_or(NO_TIME, |(time, _)| time as u32);
             tables.moves[station] = state.sum.map_or(NO_MOVES, |(_, moves)| moves as u16);
             tables.preds[station] = state.predecessor.unwrap_or(NO_PREDECESSOR);
             tables.marks[station] = 0;
-        }
-        if accepted {
-            tables.preds[usize::from(self.query.source)] = SOURCE;
         }
         tables.list[..self.list.len()].copy_from_slice(&self.list);
     }

@@ -49,24 +49,15 @@ pub fn legs(pages: &Pages, strip: u16) -> Vec<Leg> {
 
 /// What a search has to give: "less means less time, then fewer moves".
 pub fn truth(image: &Image, pages: &Pages, query: Query) -> Truth {
-    truth_counting(1, image, pages, query)
-}
-
-/// The same with ways ordered by time alone, as before document 02's "Fewer lifts": no leg counts as a move.
-pub fn truth_by_time_alone(image: &Image, pages: &Pages, query: Query) -> Truth {
-    truth_counting(0, image, pages, query)
-}
-
-/// `lift` is what a leg adds to the number of moves.
-fn truth_counting(lift: u16, image: &Image, pages: &Pages, query: Query) -> Truth {
     let mut legs = legs(pages, query.strip);
     let times = least_times(image.stations, &legs, query.source);
     legs.retain(|leg| leg.keeps_to(&times));
-    let moves = fewest_moves(lift, image.stations, &legs, query.source);
+    let moves = fewest_moves(image.stations, &legs, query.source);
     let mut order: Vec<usize> = (0..image.stations).filter(|&station| times[station].is_some()).collect();
     order.sort_by_key(|&station| (times[station], moves[station], station));
     let first_bad = order.iter().position(|&station| pages[image.page_of(station)].is_err());
-    // Both searches settle in this order, and the first station on a bad page is the last they refer for.
+    // Both searches settle in this order, since every move makes a way more; and the first station on a bad page is the
+    // last they refer for.
     let settled = &order[..first_bad.map_or(order.len(), |at| at + 1)];
     let plain_list = settled.iter().map(|&station| image.directory[station]).collect();
     let refused = first_bad.and_then(|at| {
@@ -78,7 +69,7 @@ fn truth_counting(lift: u16, image: &Image, pages: &Pages, query: Query) -> Trut
         let preds = vec![NO_PREDECESSOR; image.stations];
         return Truth { times, moves, preds, reached: 0, refused, plain_list };
     }
-    let preds = lowest_predecessors(lift, &moves, &legs, query.source);
+    let preds = lowest_predecessors(&moves, &legs, query.source);
     let reached = order.len();
     let times = times.iter().map(|time| time.map_or(NO_TIME, |time| time as u32)).collect();
     let moves = moves.iter().map(|moves| moves.unwrap_or(NO_MOVES)).collect();
@@ -115,8 +106,9 @@ impl Leg {
 }
 
 /// Rounds over the legs that keep to least times, of which every walk of a least time consists: what a round comes to
-/// first is a move farther than what the round before came to.
-fn fewest_moves(lift: u16, stations: usize, legs: &[Leg], source: u16) -> Vec<Option<u16>> {
+/// first is a move farther than what the round before came to. What it comes to again, where legs of time 0 lead round,
+/// has its number already.
+fn fewest_moves(stations: usize, legs: &[Leg], source: u16) -> Vec<Option<u16>> {
     let mut moves = vec![None; stations];
     let mut round = 0;
     moves[usize::from(source)] = Some(round);
@@ -124,26 +116,27 @@ fn fewest_moves(lift: u16, stations: usize, legs: &[Leg], source: u16) -> Vec<Op
         let mut further = false;
         for leg in legs {
             if moves[usize::from(leg.from)] == Some(round) && moves[usize::from(leg.target)].is_none() {
-                moves[usize::from(leg.target)] = Some(round + lift);
+                moves[usize::from(leg.target)] = Some(round + 1);
                 further = true;
             }
         }
         if !further {
             return moves;
         }
-        round += lift;
+        round += 1;
     }
 }
 
-/// "The predecessor is the lowest station that gives both numbers": the time, as all these legs do, and the moves.
-fn lowest_predecessors(lift: u16, moves: &[Option<u16>], legs: &[Leg], source: u16) -> Vec<u16> {
+/// "The predecessor is the lowest station that gives both numbers": the time, as all these legs do, and the moves. The
+/// source's 65,534 is above every station and stays only if no station gives both of its numbers, 0 and 0.
+fn lowest_predecessors(moves: &[Option<u16>], legs: &[Leg], source: u16) -> Vec<u16> {
     let mut preds = vec![NO_PREDECESSOR; moves.len()];
+    preds[usize::from(source)] = SOURCE;
     for leg in legs {
         let target = usize::from(leg.target);
-        if moves[usize::from(leg.from)].map(|moves| moves + lift) == moves[target] {
+        if moves[usize::from(leg.from)].map(|moves| moves + 1) == moves[target] {
             preds[target] = preds[target].min(leg.from);
         }
     }
-    preds[usize::from(source)] = SOURCE;
     preds
 }

@@ -1,4 +1,4 @@
--- The moves that a good page gives a station: each leads to another station of the map and takes 1 to 65,535 tenths of
+-- The moves that a good page gives a station: each leads to another station of the map and takes up to 65,535 tenths of
 -- a second. For the crates above, which never see how a page is spelled.
 use Rattle.common.proofs.Ground.{_≡_, subst, List, [], _∷_, ℕ, length, eqb, eqb-true}
 use Rattle.common.proofs.Cases.{by-pick}

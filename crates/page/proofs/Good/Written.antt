@@ -59,7 +59,6 @@ module _ (directory : List ℕ) (p : ℕ) (page : List ℕ) (zeros : ℕ) where
         below = g .0 .below;
         other = λ own-target. g .0 .other (omega arith);
         rising = g .0 .rising;
-        timed = omega (arith, g .0 .timed);
         limited = code-limited m;
       } in
       let (x, is, stands) = read-move page at m _ e in

@@ -1,4 +1,4 @@
--- By the cases of the five tests, in the order of the definition.
+-- By the cases of the four tests, in the order of the definition.
 use Rattle.common.proofs.Ground.{needs, tests}
 use Rattle.rules.specs.Rules.{moveFault}
 use Rattle.rules.proofs.move_fault.Statement.{statement}
@@ -13,7 +13,6 @@ move-fault-spec =
     (λ c. search tests)
     (λ c. search tests)
     (λ c. search needs)
-    (λ c. search tests)
     (λ c. search tests)
     (λ c. search tests)
     (λ c. search tests))
