@@ -3,7 +3,7 @@
 -- all.
 use Rattle.common.proofs.Ground.{_≡_, true, false, not, _||_, dite, List, [], _∷_, ℕ, zero, suc, _+_, _*_, _≤_, _<_}
 use Rattle.common.proofs.Ground.{arith, ℕ-discrete, length, getD, drop, length-drop, length-take-le, eqb, ltb, ltb-true}
-use Rattle.common.proofs.Ground.{ltb-false, eq-eqb, ne-eqb, eqb-true, not-false, lit≤}
+use Rattle.common.proofs.Ground.{ltb-false, eq-eqb, ne-eqb, eqb-true, not-false, lit≤, lt-ltb, le-ltb, refl, ap}
 use Rattle.common.proofs.Cases.{by-pick, never}
 use Rattle.image.specs.Image.{Outcome, accepted, refused, nowhere, at-station, stationCount, pageCount}
 use Rattle.image.specs.Image.{directoryOf, pageBytes, firstNotBelow, headingCheck}
@@ -20,14 +20,17 @@ pub record Formed (image : List ℕ) : Type 0 where
   pub page : (p : ℕ) → p < pageCount image → length (pageBytes image p) ≡ 256
 
 -- a count that is neither 0 nor above its limit
-in-range : (n limit : ℕ) → eqb n 0 || ltb limit n ≡ false → (1 ≤ n) × (n ≤ limit)
+pub in-range : (n limit : ℕ) → eqb n 0 || ltb limit n ≡ false → (1 ≤ n) × (n ≤ limit)
 in-range n limit e =
     dite (ℕ-discrete n 0)
     (λ none. never (let z : true ≡ false = simp (eq-eqb n 0 none) at e in cc))
     (λ some. omega (arith, ltb-false limit n (simp (ne-eqb n 0 some) at e)))
 
+pub within : (n limit : ℕ) → 1 ≤ n → n ≤ limit → eqb n 0 || ltb limit n ≡ false
+within n limit some most = simp (ne-eqb n 0 (λ e. omega arith), le-ltb limit n most)
+
 -- every entry before the first that is not below the limit is below it
-below-before : (limit : ℕ) (ds : List ℕ) (i : ℕ) → i < firstNotBelow limit ds → getD ds i 0 < limit
+pub below-before : (limit : ℕ) (ds : List ℕ) (i : ℕ) → i < firstNotBelow limit ds → getD ds i 0 < limit
 unfolding firstNotBelow
 below-before limit [] i h = absurd (omega arith)
 below-before limit (d ∷ ds) zero h =
@@ -40,6 +43,14 @@ below-before limit (d ∷ ds) (suc i) h =
     (λ below l. below-before limit ds i (omega arith))
     (λ found l. absurd (omega arith))
     h
+
+-- where every entry is below the limit there is no such one
+pub all-below : (limit : ℕ) (ds : List ℕ) → ((i : ℕ) → i < length ds → getD ds i 0 < limit)
+    → firstNotBelow limit ds ≡ length ds
+unfolding firstNotBelow
+all-below limit [] each = refl
+all-below limit (d ∷ ds) each =
+    rw (lt-ltb d limit (each 0 (omega arith))) (ap suc (all-below limit ds (λ i h. each (suc i) (omega arith))))
 
 pub formed : (image : List ℕ) → headingCheck image ≡ accepted → Formed image
 unfolding headingCheck directoryOf pageBytes
@@ -70,6 +81,21 @@ formed image e =
           length-take-le 256 (drop (4 + N + 256 * p) image) (omega (arith, length-drop (4 + N + 256 * p) image));
     })))))
     e
+
+-- And the other way.
+pub formed-accepted : (image : List ℕ) → Formed image → headingCheck image ≡ accepted
+unfolding headingCheck
+formed-accepted image f =
+    let N = stationCount image in
+    let P = pageCount image in
+    let none-bad = all-below P (directoryOf image) (λ i h. f .paged i (omega (arith, f .directory))) in
+    rw (
+      le-ltb (length image) 4 (f .heading),
+      within N 2048 (f .stations) (f .stations-most),
+      within P 240 (f .pages) (f .pages-most),
+      eq-eqb (length image) (4 + N + 256 * P) (f .total),
+      le-ltb (firstNotBelow P (directoryOf image)) N (omega (arith, f .directory)),
+    )
 
 -- What the check can say: accepted; 1 to 4, with no place; or 5 with a station.
 pub heading-says : (Says : Outcome → Type 0) → ((number : ℕ) → number ≤ 4 → Says (refused number nowhere))

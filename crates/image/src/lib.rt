@@ -64,7 +64,7 @@ pub fn page_of(image: &[u8], p: u8) -> &[u8]
 
 // The lowest station whose byte is not below a limit, or the number of stations. As a rule all are below it, which the
 // greatest byte tells: then nothing has to be looked for.
-fn first_not_below(directory: &[u8], limit: usize) -> usize
+pub fn first_not_below(directory: &[u8], limit: usize) -> usize
     ensures value { λ r. ⌜ r ≡ firstNotBelow limit (now (directory .entry)) ⌝ }
 {
     if (greatest(directory) as usize) < limit {
@@ -87,7 +87,7 @@ pub fn refuse(number: u8, place: Place) -> Checked
 }
 
 // Whether a count is 0 or above its limit.
-fn outside(count: usize, limit: usize) -> bool
+pub fn outside(count: usize, limit: usize) -> bool
     ensures value { λ r. ⌜ r ≡ (eqb count 0 || ltb limit count) ⌝ }
 {
     count == 0 || limit < count

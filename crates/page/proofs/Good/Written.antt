@@ -97,7 +97,7 @@ written-good directory p stations zeros g =
     read-stations directory p page zeros stations (suc (length page)) 0 0 0 (omega arith) (g .fine) (g .named) refl
 
 -- How long a content's bytes are, whatever stands behind them.
-length-moves : (moves : List Move) (rest : List ℕ)
+pub length-moves : (moves : List Move) (rest : List ℕ)
     → length (spellMoves moves rest) ≡ length (spellMoves moves []) + length rest
 unfolding spellMoves
 length-moves [] rest = omega arith
@@ -109,7 +109,7 @@ length-moves (m ∷ moves) rest =
       length-moves moves rest,
     )
 
-length-stations : (stations : List Leaving) (rest : List ℕ)
+pub length-stations : (stations : List Leaving) (rest : List ℕ)
     → length (spellStations stations rest) ≡ length (spellStations stations []) + length rest
 unfolding spellStations
 length-stations [] rest = omega arith
@@ -117,7 +117,7 @@ length-stations (x ∷ xs) rest =
     let whole = length-moves (x .moves) (spellStations xs rest) in
     omega (arith, length-moves (x .moves) (spellStations xs []), length-stations xs rest)
 
-length-spelled : (stations : List Leaving) (zeros : ℕ)
+pub length-spelled : (stations : List Leaving) (zeros : ℕ)
     → length (spelled stations zeros) ≡ length (spellStations stations []) + 1 + zeros
 length-spelled stations zeros =
     omega (arith, length-stations stations (0 ∷ replicate zeros 0), length-replicate {A = ℕ} zeros 0)
