@@ -49,6 +49,6 @@ toldBy n answer =
 
 -- For the code: numbers that a C caller's 32 bits hold, as those of every outcome are (yard/proofs/Small.antt).
 pub record Small (n : Numbers) : Type 0 where
-  pub count : n .count ≤ 2048
+  pub count : n .count ≤ 12240
   pub reached : n .reached ≤ 2048
   pub offset : n .offset ≤ 256

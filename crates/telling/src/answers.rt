@@ -12,7 +12,7 @@ use image::Refusal;
 use reply::Answer;
 use route::RouteAnswer;
 
-fn numbers(status: u8, count: usize, reached: usize, place: u16, offset: usize) -> Numbers
+pub fn numbers(status: u8, count: usize, reached: usize, place: u32, offset: usize) -> Numbers
     ensures value { λ r. ⌜ r ≡ numbers status count reached place offset ⌝ }
 {
     Numbers {
@@ -24,15 +24,15 @@ fn numbers(status: u8, count: usize, reached: usize, place: u16, offset: usize) 
     }
 }
 
-fn of_refusal(refusal: Refusal, count: usize) -> Numbers
+pub fn of_refusal(refusal: Refusal, count: usize) -> Numbers
     ensures value { λ r. ⌜ r ≡ ofOutcome (refused (refusal .number) (placeOf (refusal .place))) count 0 ⌝ }
 {
     let number = refusal.number;
     let place = refusal.place;
     match place {
         Place::Nowhere => numbers(number, count, 0, 0, 0),
-        Place::AtStation(station) => numbers(number, count, 0, station, 0),
-        Place::OnPage { page, offset } => numbers(number, count, 0, page as u16, offset),
+        Place::AtStation(station) => numbers(number, count, 0, station as u32, 0),
+        Place::OnPage { page, offset } => numbers(number, count, 0, page as u32, offset),
     }
 }
 
@@ -74,7 +74,7 @@ pub fn tell(n: Numbers, answer: &mut [u32]) -> u32
     }
     answer[0] = n.count as u32;
     answer[1] = n.reached as u32;
-    answer[2] = n.place as u32;
+    answer[2] = n.place;
     answer[3] = n.offset as u32;
     n.status as u32
 }

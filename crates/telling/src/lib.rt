@@ -2,11 +2,12 @@
 
 pub mod answers;
 
-// A call's status and its four numbers. `place` is the page or, for refusal 5, the station.
+// A call's status and its four numbers. `place` is the page or, for refusal 5, the station; for refusal 19 it is the
+// index of a record.
 pub struct Numbers {
     pub status: u8,
     pub count: usize,
     pub reached: usize,
-    pub place: u16,
+    pub place: u32,
     pub offset: usize,
 }

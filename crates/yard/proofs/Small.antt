@@ -23,7 +23,7 @@ use Rattle.reply.proofs.Checking.{NamesNoPage, Admitted, Decided, turned-down, 
 use Rattle.reply.proofs.Searches.{few-stations, refused-of, short-of}
 use Rattle.telling.specs.Numbers.{numbers, ofOutcome, ofCheck, ofSearch, ofRoute, Small}
 
-sized : (s c r p o : ℕ) → c ≤ 2048 → r ≤ 2048 → o ≤ 256 → Small (numbers s c r p o)
+sized : (s c r p o : ℕ) → c ≤ 12240 → r ≤ 2048 → o ≤ 256 → Small (numbers s c r p o)
 sized s c r p o few reached near = record { count = few; reached = reached; offset = near }
 
 no-numbers : (s p : ℕ) → Small (numbers s 0 0 p 0)

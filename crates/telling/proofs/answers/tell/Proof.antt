@@ -14,18 +14,18 @@ slice-write-answer-2 c =
 
 slice-write-answer-3 : tie.Need-slice-write-answer-3
 slice-write-answer-3 c =
-    let a = c .before .before .before .before .args in
+    let a = c .before .before .before .args in
     let l = now (a .answer) in
     omega (
       arith,
       length-set l 0 (a .n .count),
       length-set (set l 0 (a .n .count)) 1 (a .n .reached),
-      c .before .before .before .if1 .left,
+      c .before .before .if1 .left,
     )
 
 returns-2 : tie.Need-returns-2
 returns-2 c =
-    let long = c .before .before .before .before .before in
+    let long = c .before .before .before .before in
     let a = long .before .args in
     put-four (a .n) (now (a .answer)) (long .if1 .left)
 
@@ -39,7 +39,6 @@ tell-spec =
     (λ c. search needs)
     (λ c. search needs)
     slice-write-answer-2
-    (λ c. search needs)
     slice-write-answer-3
     (λ c. search needs)
     (λ c. search needs)
