@@ -1,12 +1,12 @@
-// The text of a lent table, as search_test prints it: its name, and runs of equal entries, such as `0 4 187*5`. A table
-// of more than 64 runs is printed as its length, a digest of all its entries, and its last run. So an entry that a
-// search ought to keep shows if it was written.
+// The text of a lent table, as search_test and records_test print it: its name, and runs of equal entries, such as
+// `0 4 187*5`. A table of more than 64 runs is printed as its length, a digest of all its entries, and its last run. So
+// an entry that a search ought to keep shows if it was written.
 
 ghost use Prim.Native.Nat.{_≤_};
 use cases_io::print_number;
 use libc::STDOUT_FILENO;
 
-// The longest table of a case.
+// The longest table of a case of search_test.
 pub const ENTRIES: usize = 2100;
 
 // A length that is asked for, as far as there is room.
@@ -17,6 +17,19 @@ pub fn within(asked: usize) -> usize
         return asked;
     }
     ENTRIES
+}
+
+// The longest table that is printed.
+pub const LONGEST: usize = 65536;
+
+// A length that is to be printed, as far as it can be.
+pub fn within_longest(asked: usize) -> usize
+    ensures fits { λ r. ⌜ r ≤ 65536 ⌝ }
+{
+    if asked < LONGEST {
+        return asked;
+    }
+    LONGEST
 }
 
 // A table with more runs is printed by its digest.
@@ -167,16 +180,28 @@ fn widen_bytes(bytes: &[u8], table: &mut [u32]) {
     }
 }
 
+// Prints a table of u16 by one of u32, which has its length.
+fn print_widened_words(name: &[u8], words: &[u16], table: &mut [u32]) {
+    widen_words(words, table);
+    print_table(name, table);
+}
+
+// Prints a table of bytes likewise.
+fn print_widened_bytes(name: &[u8], bytes: &[u8], table: &mut [u32]) {
+    widen_bytes(bytes, table);
+    print_table(name, table);
+}
+
 // Prints a table of u16 under its name.
 pub fn print_words(name: &[u8], words: &[u16]) {
-    let mut table = [0u32; ENTRIES];
-    widen_words(words, &mut table);
-    print_table(name, &table[..within(words.len())]);
+    let mut table = [0u32; LONGEST];
+    let n = within_longest(words.len());
+    print_widened_words(name, words, &mut table[..n]);
 }
 
 // Prints a table of bytes under its name.
 pub fn print_bytes(name: &[u8], bytes: &[u8]) {
-    let mut table = [0u32; ENTRIES];
-    widen_bytes(bytes, &mut table);
-    print_table(name, &table[..within(bytes.len())]);
+    let mut table = [0u32; LONGEST];
+    let n = within_longest(bytes.len());
+    print_widened_bytes(name, bytes, &mut table[..n]);
 }
