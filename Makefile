@@ -19,12 +19,14 @@ cases: layers
 	@python3 tests/make_search_cases.py --check
 	@python3 tests/make_route_cases.py --check
 	@python3 tests/make_panel_cases.py --check
+	@python3 tests/make_records_cases.py --check
 	@python3 tests/make_coils_examples.py --check
 
 # What would look at page bytes, by the names that the sources use: a slice under another name escapes this.
 LOOKS := \b(page|image)\[|(byte_at|word_at|part_of|command_at)\((page|image)\b
 SEE_NO_BYTES := layout queue cells relax rows page whole work reference engine tables reply \
-    search panel line coil telling yard
+    search panel line coil move_record writing records telling yard
+# Not among them: listing, which reads the moves of a good page command by command, and imaging, which writes pages.
 
 # Looks in the crates that are to see no page bytes for an index of, or a byte read from, a slice called page or image.
 layers:
@@ -50,10 +52,11 @@ libyard:
 
 C99 := $(CC) -std=c99 -O2 -Wall -Wextra -Werror -pedantic -Iinclude
 
-# Builds the C programs way and panel and runs them: each status 0 to 3, and strips that a way is closed to (needs C).
+# Builds the C programs way, panel and redraw and runs them: each status 0 to 3, closed ways, maps drawn anew (needs C).
 c-example: libyard
 	$(C99) -o target/way examples/way.c target/staticlib/libyard.a
 	$(C99) -o target/panel examples/panel.c target/staticlib/libyard.a
+	$(C99) -o target/redraw examples/redraw.c target/staticlib/libyard.a
 	target/way crates/coils/data/yard.map 0 6
 	target/way examples/plate/yard.map 396 0; test $$? = 1
 	target/way crates/coils/data/yard.map 0 -1; test $$? = 2
@@ -72,6 +75,16 @@ c-example: libyard
 	target/panel examples/plate/yard.map 203 202 8441
 	target/panel examples/plate/yard.map 203 204 12001; test $$? = 3
 	target/panel examples/plate/yard.map 203 181
+	target/redraw crates/coils/data/yard.map target/redrawn.map
+	cmp target/redrawn.map crates/coils/data/yard.map
+	target/redraw crates/coils/data/yard.map target/redrawn.map 5 6 4
+	target/way target/redrawn.map 0 6
+	target/redraw crates/coils/data/yard.map target/redrawn.map 6 0 5 8120
+	target/way target/redrawn.map 6 0 8120
+	target/way target/redrawn.map 6 0 8121; test $$? = 3
+	target/redraw examples/plate/yard.map target/redrawn.map; test $$? = 1
+	target/redraw crates/coils/data/yard.map target/redrawn.map 6 6 5; test $$? = 1
+	target/redraw crates/coils/data/yard.map target/redrawn.map 6 0; test $$? = 2
 
 # Measures the stack of each call of the C interface, on full and on damaged maps (needs a C compiler and ucontext).
 stack: libyard
@@ -87,7 +100,7 @@ fuzz: target/outside/fuzz
 
 ROUNDS ?= 600
 
-# Measures the C interface against Dijkstra's search in Rust and, with BASE=, another build of libyard.a (needs rustc).
+# Measures the C interface against Rust without proofs and, with BASE=, another build of libyard.a (needs rustc).
 bench: target/outside/bench
 	target/outside/bench $(ROUNDS)
 
@@ -115,7 +128,7 @@ $(OUTSIDE): $(wildcard outside/src/*.rs outside/src/*/*.rs)
 
 LINKED := --extern outside=$(OUTSIDE) -L target/staticlib -l static=yard
 
-target/outside/fuzz: $(OUTSIDE) $(wildcard outside/fuzz/*.rs) libyard
+target/outside/fuzz: $(OUTSIDE) $(wildcard outside/fuzz/*.rs outside/fuzz/*/*.rs) libyard
 	$(RUSTC) $(LINKED) -o $@ outside/fuzz/main.rs
 
 # In the builds that are measured each function begins at a line of the cache, 64 bytes: by its place in the program

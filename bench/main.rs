@@ -1,6 +1,7 @@
-//! The benchmark: the searches, the whole check and the panel through the C interface, against Dijkstra's search as one
-//! writes it in Rust without proofs (`baseline.rs`) and, where they are built in, an earlier build of the library
-//! (`base.rs`) and other libraries (`peers.rs`). Takes the number of rounds as its argument and prints Markdown tables.
+//! The benchmark: the searches, the whole check, the panel, reading records and writing an image through the C
+//! interface, against Dijkstra's search as one writes it in Rust without proofs (`baseline.rs`), reading and writing
+//! alike (`writer.rs`) and, where they are built in, an earlier build of the library (`base.rs`) and other libraries
+//! (`peers.rs`). Takes the number of rounds as its argument and prints Markdown tables.
 
 #[cfg(base)]
 mod base;
@@ -13,6 +14,7 @@ mod peers;
 mod rounds;
 mod tables;
 mod timing;
+mod writer;
 
 use contestants::Name;
 use rounds::Measured;

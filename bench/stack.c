@@ -26,6 +26,9 @@ static uint32_t times[YARD_MAX_STATIONS], answer[4], returned;
 static uint16_t moves[YARD_MAX_STATIONS], preds[YARD_MAX_STATIONS], way[YARD_MAX_STATIONS];
 static uint8_t marks[YARD_MAX_STATIONS], list[YARD_MAX_STATIONS];
 static size_t preds_len, way_len;
+static struct yard_record records[YARD_MAX_RECORDS], drawn[YARD_MAX_RECORDS];
+static size_t records_len, drawn_len;
+static uint8_t buffer[YARD_MAX_IMAGE_BYTES];
 
 static void nothing(void)
 {
@@ -59,6 +62,19 @@ static void panel(void)
     returned = yard_panel_refusal(yard_panel(image, image_len, source, length, station));
 }
 
+static void read_records(void)
+{
+    returned = yard_records(image, image_len, records, records_len, answer, 4);
+}
+
+/* With the numbers and the directory that the image has. */
+static void write_image(void)
+{
+    returned = yard_write(records, drawn_len, (uint16_t)yard_stations(image, image_len),
+                          (uint16_t)yard_pages(image, image_len), image + YARD_HEADING_BYTES,
+                          yard_stations(image, image_len), buffer, image_len, answer, 4);
+}
+
 /* What was seen of a call: the most bytes, and how often it was accepted and refused. */
 struct seen {
     const char *name;
@@ -73,6 +89,8 @@ static struct seen of_plain = {"yard_plain", plain, 0, 0, 0};
 static struct seen of_df = {"yard_df", df, 0, 0, 0};
 static struct seen of_route = {"yard_route", route, 0, 0, 0};
 static struct seen of_panel = {"yard_panel", panel, 0, 0, 0};
+static struct seen of_records = {"yard_records", read_records, 0, 0, 0};
+static struct seen of_write = {"yard_write", write_image, 0, 0, 0};
 
 /* The bytes from the lowest one that is no longer paint to the stack's end, after the call on a stack of that paint. */
 static size_t used_on(uint8_t paint, void (*call)(void))
@@ -163,6 +181,14 @@ static void put_full_map(uint32_t kind)
     }
 }
 
+/* The records of the full map in hand, from which it can be written again. */
+static void draw_full_map(void)
+{
+    if (yard_records(image, image_len, drawn, YARD_MAX_RECORDS, answer, 4) != YARD_ACCEPTED)
+        abort();
+    drawn_len = answer[0];
+}
+
 /* Any station; one of sixteen is not below YARD_MAX_STATIONS. */
 static uint16_t any_station(void)
 {
@@ -172,8 +198,28 @@ static uint16_t any_station(void)
 }
 
 /*
- * The five calls on the map in hand; the route on the predecessors that the DF search left, or on damaged ones; the
- * panel from and to stations of its own, which the map need not have.
+ * Reading records into a list with room for all or not; then writing those of the full map: as they are, one of them
+ * with another target, by which it may not be in its place, and many with limits, by which a page may be too full.
+ */
+static void measure_records(void)
+{
+    size_t at = below((uint32_t)drawn_len), behind = drawn_len - at < 80 ? drawn_len : at + 80;
+
+    records_len = below(8) == 0 ? below((uint32_t)drawn_len) : YARD_MAX_RECORDS;
+    measure(&of_records);
+    memcpy(records, drawn, sizeof drawn);
+    measure(&of_write);
+    records[at].target = any_station();
+    measure(&of_write);
+    records[at] = drawn[at];
+    for (; at < behind; at++)
+        records[at].limit = 65535;
+    measure(&of_write);
+}
+
+/*
+ * All calls on the map in hand; the route on the predecessors that the DF search left, or on damaged ones; the panel
+ * from and to stations of its own, which the map need not have.
  */
 static void measure_all(void)
 {
@@ -194,6 +240,7 @@ static void measure_all(void)
     source = any_station();
     station = any_station();
     measure(&of_panel);
+    measure_records();
 }
 
 /* Damages one byte of the map in hand at a time, takes it back, and now and then cuts the map short. */
@@ -217,7 +264,7 @@ static int told(const struct seen *seen)
 {
     size_t bytes = seen->most - base.most;
 
-    printf("%-10s %6lu bytes at most (%lu accepted, %lu refused)\n", seen->name, (unsigned long)bytes,
+    printf("%-12s %6lu bytes at most (%lu accepted, %lu refused)\n", seen->name, (unsigned long)bytes,
            seen->accepted, seen->refused);
     return bytes < PROMISED;
 }
@@ -230,6 +277,7 @@ int main(void)
     measure(&base);
     for (kind = 0; kind < FULL_MAPS; kind++) {
         put_full_map(kind);
+        draw_full_map();
         measure_all();
         measure_damaged();
     }
@@ -238,5 +286,7 @@ int main(void)
     kept &= told(&of_df);
     kept &= told(&of_route);
     kept &= told(&of_panel);
+    kept &= told(&of_records);
+    kept &= told(&of_write);
     return kept ? 0 : 1;
 }

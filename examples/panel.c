@@ -30,7 +30,7 @@ static enum status show(uint16_t station, double shown)
     case TIME:
         tenths = (uint32_t)shown;
         printf("station %u: %u.%u s\n", (unsigned)station, (unsigned)(tenths / 10), (unsigned)(tenths % 10));
-        status = STATUS_FOUND;
+        status = STATUS_DONE;
         break;
     case NO_ROUTE:
         printf("station %u: no route\n", (unsigned)station);

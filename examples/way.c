@@ -8,24 +8,12 @@
  */
 #include <stdio.h>
 #include "arguments.h"
+#include "refusal.h"
 #include "yard.h"
 
 static uint8_t marks[YARD_MAX_STATIONS], list[YARD_MAX_STATIONS];
 static uint32_t times[YARD_MAX_STATIONS];
 static uint16_t moves[YARD_MAX_STATIONS], preds[YARD_MAX_STATIONS], way[YARD_MAX_STATIONS];
-
-/* Prints a refusal, and the place that the answer gives for it. */
-static enum status refused(const char *call, uint32_t refusal, const uint32_t *answer)
-{
-    printf("%s refused %u: %s", call, (unsigned)refusal, yard_refusal_meaning(refusal));
-    if (refusal == YARD_REFUSED_DIRECTORY)
-        printf(", station %u", (unsigned)answer[2]);
-    else if ((refusal >= YARD_REFUSED_UNKNOWN_CODE && refusal <= YARD_REFUSED_BYTE_AFTER_END)
-             || refusal == YARD_REFUSED_LIMIT_ZERO)
-        printf(", page %u, offset %u", (unsigned)answer[2], (unsigned)answer[3]);
-    printf("\n");
-    return STATUS_REFUSED;
-}
 
 /* Searches from the source for a strip of the length and prints the way to the station. */
 static enum status find_way(const struct arguments *asked)
@@ -51,7 +39,7 @@ static enum status find_way(const struct arguments *asked)
     printf("in %u tenths of a second, %u move%s, %u page fetch%s\n", (unsigned)times[asked->station],
            (unsigned)moves[asked->station], moves[asked->station] == 1 ? "" : "s", (unsigned)pages,
            pages == 1 ? "" : "es");
-    return STATUS_FOUND;
+    return STATUS_DONE;
 }
 
 int main(int argc, char **argv)

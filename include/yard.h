@@ -13,7 +13,8 @@
  *         00                   ends the page; zeros follow
  * A page names just its own stations, rising; the targets of a station rise and differ from it. A time of 0 is a
  * handover: a stop, such as a turntable, that has two station numbers. README.md says it at more length, and lists the
- * definitions that say it exactly.
+ * definitions that say it exactly. A map can also be had as records, a struct yard_record for each move: yard_records
+ * gives those of an image, yard_write the image of records.
  *
  * A slice is passed as a pointer and a length in entries; a length of 0 needs a pointer that is not null. The slices
  * of one call must not overlap. No call allocates, and none keeps a pointer.
@@ -26,13 +27,14 @@
  *
  * Stack: a call's stack use stays below 256 KiB. The most that was seen, in bytes, arguments included (`make stack` on
  * x86-64: full maps and damaged ones):
- *     yard_check 77,504    yard_plain 112,752    yard_df 112,752    yard_route 72    yard_panel 133,184
+ *     yard_check 77,584    yard_plain 112,752    yard_df 112,752    yard_route 72    yard_panel 133,184
+ *     yard_records 177,616    yard_write 104,184
  *
- * Each call but yard_panel returns 0 if accepted, else the refusal's number (1 to 18, but never 13); yard_panel returns
+ * Each call but yard_panel returns 0 if accepted, else the refusal's number (1 to 20, but never 13); yard_panel returns
  * a double and has no answer. Where answer has four entries or more, the first four get
- *     answer[0]  count:   entries of the page list, or stations on the route
+ *     answer[0]  count:   entries of the page list, stations on the route, or records of the map
  *     answer[1]  reached: stations that have a time, the source among them
- *     answer[2]  page of a page refusal (8 to 12, 14 and 18); for refusal 5 the station
+ *     answer[2]  page of a page refusal (8 to 12, 14 and 18), and of 20; for 5 the station; for 19 the record's index
  *     answer[3]  offset of a page refusal in its page, in bytes: that of the command at fault
  * and numbers that do not apply are 0. A shorter answer is left as it is, and so are later entries.
  */
@@ -48,13 +50,22 @@ extern "C" {
 
 /* The version of this interface: MAJOR rises when programs have to change, MINOR when something is added. */
 #define YARD_VERSION_MAJOR 3
-#define YARD_VERSION_MINOR 1
+#define YARD_VERSION_MINOR 2
 
 /* The limits of a map. Read a file into YARD_MAX_IMAGE_BYTES + 1 bytes: one that is too long is then refused by 4. */
 #define YARD_MAX_STATIONS 2048
 #define YARD_MAX_PAGES 240
 #define YARD_PAGE_BYTES 256
 #define YARD_MAX_IMAGE_BYTES 63492
+
+/* The heading of an image has so many bytes; behind it stands the directory. */
+#define YARD_HEADING_BYTES 4
+
+/*
+ * Room for the records of every map: a move has five bytes or more of the 255 that a page has beside its end, so that
+ * there are never more than 51 on each of YARD_MAX_PAGES pages.
+ */
+#define YARD_MAX_RECORDS 12240
 
 /* The entries of a station that was not reached, and the predecessor of the source. */
 #define YARD_NO_TIME UINT32_C(4294967295)
@@ -64,6 +75,11 @@ extern "C" {
 
 /* What yard_panel returns for a station that was not reached. */
 #define YARD_NO_ROUTE (-1.0)
+
+/* A move as a record: from station to station in tenths of a second, with a limit in decimetres or 0 for none. */
+struct yard_record {
+    uint16_t from, target, time, limit;
+};
 
 /*
  * What a call returns: the refusals by their numbers; yard_refusal_meaning has their conditions. Of what yard_panel
@@ -93,7 +109,10 @@ enum yard_refusal {
     YARD_REFUSED_ROUTE_CHAIN = 16,
     YARD_REFUSED_ROUTE_ROOM = 17,
     /* of a page, as 8 to 12 and 14 */
-    YARD_REFUSED_LIMIT_ZERO = 18
+    YARD_REFUSED_LIMIT_ZERO = 18,
+    /* of records to be written: answer[2] is the index of the first such record (19), the lowest such page (20) */
+    YARD_REFUSED_RECORD = 19,
+    YARD_REFUSED_PAGE_FULL = 20
 };
 
 /* A refusal's meaning in words; of 0 "accepted". The string is constant and is never null. */
@@ -104,10 +123,10 @@ static inline const char *yard_refusal_meaning(uint32_t refusal)
     case YARD_REFUSED_IMAGE_TOO_SHORT: return "image under 4 bytes";
     case YARD_REFUSED_STATION_COUNT: return "number of stations is 0 or over 2,048";
     case YARD_REFUSED_PAGE_COUNT: return "number of pages is 0 or over 240";
-    case YARD_REFUSED_IMAGE_LENGTH: return "image is not as long as its heading says";
+    case YARD_REFUSED_IMAGE_LENGTH: return "image, or a directory to be written, is not as long as N and P say";
     case YARD_REFUSED_DIRECTORY: return "directory gives a station a page that the map does not have";
     case YARD_REFUSED_SOURCE: return "source, or the panel's station, is not a station of the map";
-    case YARD_REFUSED_TABLE_TOO_SHORT: return "a table has fewer entries than the map has stations";
+    case YARD_REFUSED_TABLE_TOO_SHORT: return "a table has fewer entries than stations, or a record list than moves";
     case YARD_REFUSED_UNKNOWN_CODE: return "unknown command code";
     case YARD_REFUSED_PAGE_OVERRUN: return "command passes the page's end, or the page has no end command";
     case YARD_REFUSED_STATION_ORDER: return "not the next station of the page, or one is missing at the end";
@@ -118,6 +137,8 @@ static inline const char *yard_refusal_meaning(uint32_t refusal)
     case YARD_REFUSED_ROUTE_CHAIN: return "predecessors do not lead to a source";
     case YARD_REFUSED_ROUTE_ROOM: return "output is shorter than the route";
     case YARD_REFUSED_LIMIT_ZERO: return "limit of a move is 0";
+    case YARD_REFUSED_RECORD: return "record is not of two stations of the map, or not above the record before it";
+    case YARD_REFUSED_PAGE_FULL: return "stations and moves of a page need more than its 256 bytes";
     default: return "not a refusal of this version";
     }
 }
@@ -127,6 +148,19 @@ static inline size_t yard_stations(const uint8_t *image, size_t image_len)
 {
     size_t stations = image_len < 4 ? 0 : image[0] + (size_t)256 * image[1];
     return stations <= YARD_MAX_STATIONS ? stations : 0;
+}
+
+/* The number of pages P of an image, 1 to YARD_MAX_PAGES; 0 where a call would be refused by 1 or 3. */
+static inline size_t yard_pages(const uint8_t *image, size_t image_len)
+{
+    size_t pages = image_len < 4 ? 0 : image[2] + (size_t)256 * image[3];
+    return pages <= YARD_MAX_PAGES ? pages : 0;
+}
+
+/* The length in bytes of an image of so many stations and pages. */
+static inline size_t yard_image_bytes(size_t stations, size_t pages)
+{
+    return YARD_HEADING_BYTES + stations + YARD_PAGE_BYTES * pages;
 }
 
 /* The whole check of a map: refusals 1 to 5, then every page by rising number, with every move, whatever its limit. */
@@ -186,6 +220,33 @@ static inline uint32_t yard_panel_refusal(double returned)
 {
     return returned <= -101.0 ? (uint32_t)(-100.0 - returned) : 0;
 }
+
+/*
+ * The records of an image: first the whole check, refused as yard_check refuses; then refusal 7 if records_len, which
+ * counts records, is less than the number of moves. Room for YARD_MAX_RECORDS is enough for every map.
+ * Accepted: the first answer[0] records are the moves of the map, each once, by rising (from, target): from, and for
+ * equal from target. Later entries are kept. Refused: every entry is untouched.
+ */
+uint32_t yard_records(const uint8_t *image, size_t image_len, struct yard_record *records, size_t records_len,
+                      uint32_t *answer, size_t answer_len);
+
+/*
+ * The image of records, for a number of stations N, a number of pages P and the directory, the page of each station. A
+ * record with limit 0 becomes a move without a limit. Refused are, in this order:
+ *     2, 3    N or P, as in an image
+ *     4       image_len is not yard_image_bytes of N and P, or directory_len is not N
+ *     5       a page of the directory is not below P; answer[2] is the lowest such station
+ *     19      from or target is not below N, target is from, or the record is not above the one before it by
+ *             (from, target); answer[2] is the index of the first such record
+ *     20      a page needs more than YARD_PAGE_BYTES, 3 for each of its stations, 5 for each of their moves, or 7 where
+ *             it has a limit, and 1 for its end; answer[2] is the lowest such page
+ * Accepted: the whole buffer is the image, which yard_check accepts. Refused: the buffer is untouched.
+ * Reading a written image gives the records again, and writing the records of an accepted image, with its N, P and
+ * directory, gives its bytes.
+ */
+uint32_t yard_write(const struct yard_record *records, size_t records_len, uint16_t stations, uint16_t pages,
+                    const uint8_t *directory, size_t directory_len, uint8_t *image, size_t image_len,
+                    uint32_t *answer, size_t answer_len);
 
 #ifdef __cplusplus
 }

@@ -121,10 +121,10 @@ impl Outcome {
     }
 }
 
-/// The same for the whole check and the route, which lend an output beside the answer.
-pub fn compare_output(
-    ours: (u32, &Lent<u32>, &Lent<u16>),
-    wanted: (u32, &Lent<u32>, &Lent<u16>),
+/// The same for the calls that lend one output beside the answer, or none.
+pub fn compare_output<T: Copy + PartialEq + Debug>(
+    ours: (u32, &Lent<u32>, &Lent<T>),
+    wanted: (u32, &Lent<u32>, &Lent<T>),
 ) -> Result<(), String> {
     if ours.0 != wanted.0 {
         return Err(format!("refusal {}, not {}", ours.0, wanted.0));

@@ -2,15 +2,17 @@
 //! that the engine's C interface gives with the reference, every entry of every table. The examples of documents 01
 //! and 02 come first. A difference ends it with a failing status and the words that bring the case up again.
 
+mod bounds;
 mod cycles;
 mod lent;
 mod panels;
 mod paper;
+mod records;
 mod routes;
 mod searches;
 mod tally;
 
-use outside::maps::cases;
+use outside::maps::{cases, drawings};
 use outside::random::Random;
 use std::process::ExitCode;
 use tally::Tally;
@@ -68,8 +70,14 @@ fn one(seed: u64, number: u64, tally: &mut Tally) -> Result<(), String> {
     let mut random = Random::for_case(seed, number);
     let case = cases::draw(&mut random);
     tally.kind(case.kind);
-    searches::compare(&case, &mut random, tally).map_err(|difference| format!("{}: {difference}", case.kind))?;
-    let case = cases::draw_route(&mut random);
-    tally.kind(case.kind);
-    routes::compare(&case, &mut random, tally).map_err(|difference| format!("{}: {difference}", case.kind))
+    let of_case = |difference| format!("{}: {difference}", case.kind);
+    searches::compare(&case, &mut random, tally).map_err(of_case)?;
+    let route = cases::draw_route(&mut random);
+    tally.kind(route.kind);
+    routes::compare(&route, &mut random, tally).map_err(|difference| format!("{}: {difference}", route.kind))?;
+    records::compare_image(&case.image, &mut random, tally).map_err(of_case)?;
+    let drawing = drawings::draw(&mut random);
+    tally.kind(drawing.kind);
+    records::compare_drawing(&drawing, &mut random, tally)
+        .map_err(|difference| format!("{}: {difference}", drawing.kind))
 }

@@ -1,11 +1,14 @@
 //! The examples that document 01 prints with their answers: the table of refusals, course cases C1 to C10 and the
-//! bounds named beside them; and what document 02 says of limits, the panel, the number of moves and moves of time 0,
-//! on these maps and on maps made for it. They are held against the reference as well as the engine, so that both hang
-//! on the paper.
+//! bounds named beside them; and what document 02 says of limits, the panel, the number of moves, moves of time 0 and
+//! records, on these maps and on maps made for it. They are held against the reference as well as the engine, so that
+//! both hang on the paper.
+
+mod writer;
 
 use outside::maps::Map;
 use outside::reference::lists::one_page_reads;
 use outside::reference::panel::Panel;
+use outside::reference::records::{self, Drawing, Record};
 use outside::reference::route::Routes;
 use outside::reference::{image, letter, Answer, Query, Search, Tables, SOURCE};
 use outside::yard;
@@ -15,12 +18,16 @@ type Check = fn(&[u8]) -> Answer;
 type Run = fn(Search, &[u8], Query, Tables) -> Answer;
 type Way = fn(&[u16], u16, &mut [u16]) -> Answer;
 type Show = fn(&[u8], Query, u16) -> f64;
+type Read = fn(&[u8], &mut [Record]) -> Answer;
+type Write = fn(Drawing, &mut [u8]) -> Answer;
 
 struct Calls {
     check: Check,
     search: Run,
     route: Way,
     panel: Show,
+    records: Read,
+    write: Write,
 }
 
 const REFERENCE: Calls = Calls {
@@ -28,6 +35,8 @@ const REFERENCE: Calls = Calls {
     search: letter::search,
     route: |preds, station, out| Routes::new(preds).call(station, out),
     panel: |image, query, station| Panel::new(image, query).outside(station),
+    records: |image, list| records::read(&records::of_image(image), list),
+    write: records::write,
 };
 
 const ENGINE: Calls = Calls {
@@ -35,6 +44,8 @@ const ENGINE: Calls = Calls {
     search: |kind, image, query, tables| answered(|answer| yard::search(kind, image, query, tables, answer)),
     route: |preds, station, out| answered(|answer| yard::route(preds, station, out, answer)),
     panel: yard::panel,
+    records: |image, list| answered(|answer| yard::records(image, list, answer)),
+    write: |drawing, buffer| answered(|answer| yard::write(drawing, buffer, answer)),
 };
 
 fn answered(call: impl FnOnce(&mut [u32]) -> u32) -> Answer {
@@ -51,7 +62,8 @@ pub fn compare() -> Result<usize, String> {
         let document_01 = [headings(&calls), pages(&calls), course(&calls), routes(&calls), bounds(&calls)];
         let document_02 = [limits(&calls), panel(&calls), fewer_moves(&calls), tables(&calls)];
         let without_time = [turntables(&calls), cycles(&calls), fewer_handovers(&calls)];
-        let examples: Vec<_> = document_01.into_iter().chain(document_02).chain(without_time).flatten().collect();
+        let parts = document_01.into_iter().chain(document_02).chain(without_time).chain(writer::examples(&calls));
+        let examples: Vec<_> = parts.flatten().collect();
         if let Some((example, _)) = examples.iter().find(|(_, holds)| !holds) {
             return Err(format!("{name}: {example}"));
         }
@@ -153,9 +165,11 @@ fn search(calls: &Calls, kind: Search, image: &[u8], query: Query, n: usize) -> 
     Given { answer, times, moves, preds, list }
 }
 
+const M7_MOVES: [(usize, usize, u16); 8] =
+    [(0, 1, 4), (0, 4, 2), (1, 2, 3), (2, 3, 3), (3, 5, 3), (4, 2, 1), (4, 5, 6), (5, 6, 1)];
+
 fn m7() -> Vec<u8> {
-    let moves = [(0, 1, 4), (0, 4, 2), (1, 2, 3), (2, 3, 3), (3, 5, 3), (4, 2, 1), (4, 5, 6), (5, 6, 1)];
-    drawn(2, vec![0, 0, 0, 0, 1, 1, 1], &moves)
+    drawn(2, vec![0, 0, 0, 0, 1, 1, 1], &M7_MOVES)
 }
 
 /// M7, page 1 begins `07`.

@@ -70,7 +70,7 @@ pub fn compare(case: &Case, random: &mut Random, tally: &mut Tally) -> Result<()
 fn compare_check(case: &Case, random: &mut Random, tally: &mut Tally) -> Result<(), String> {
     let mut ours = lent::answer(random);
     let mut wanted = ours.clone();
-    let nothing = Lent::new(0, || 0);
+    let nothing: Lent<u8> = Lent::new(0, || 0);
     let refusal = yard::check(&case.image, ours.lend());
     let answer = image::check(&case.image);
     answer.write(wanted.lend());

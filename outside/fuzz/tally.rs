@@ -1,6 +1,6 @@
 //! What came up in a run: how often each call gave each refusal, of which kinds the cases were, and how often the
 //! searches and the panel did what is easily got wrong, had moves closed, went by the number of moves or used moves of
-//! time 0.
+//! time 0, and records were read and written at the bounds of what fits.
 
 use crate::cycles;
 use outside::reference::image::Image;
@@ -20,6 +20,8 @@ pub enum Call {
     Df,
     Route,
     Panel,
+    Records,
+    Write,
 }
 
 impl Call {
@@ -31,15 +33,26 @@ impl Call {
     }
 }
 
-/// Accepted, refusals 1 to 18, "no route".
-const OUTCOMES: usize = 20;
-const NO_ROUTE: usize = 19;
+/// Accepted, refusals 1 to 20, "no route".
+const OUTCOMES: usize = 22;
+const NO_ROUTE: usize = 21;
 /// "Time 0 is accepted in `02` and `03`, so 13 no longer occurs."
 const WITHDRAWN: usize = 13;
 
+/// The calls in their order, and what each can come to.
+const CALLS: [(&str, &[usize]); 7] = [
+    ("check", &[0, 1, 2, 3, 4, 5, 8, 9, 10, 11, 12, 14, 18]),
+    ("plain", &[0, 1, 2, 3, 4, 5, 6, 7, 8, 9, 10, 11, 12, 14, 18]),
+    ("df", &[0, 1, 2, 3, 4, 5, 6, 7, 8, 9, 10, 11, 12, 14, 18]),
+    ("route", &[0, 15, 16, 17, NO_ROUTE]),
+    ("panel", &[0, 1, 2, 3, 4, 5, 6, 8, 9, 10, 11, 12, 14, 18, NO_ROUTE]),
+    ("records", &[0, 1, 2, 3, 4, 5, 7, 8, 9, 10, 11, 12, 14, 18]),
+    ("write", &[0, 2, 3, 4, 5, 19, 20]),
+];
+
 #[derive(Default)]
 pub struct Tally {
-    calls: [[u64; OUTCOMES]; 5],
+    calls: [[u64; OUTCOMES]; CALLS.len()],
     kinds: BTreeMap<&'static str, u64>,
     notes: BTreeMap<&'static str, u64>,
 }
@@ -142,20 +155,20 @@ impl Tally {
         *self.notes.entry(note).or_default() += u64::from(came_up);
     }
 
-    /// The outcomes that no call had, and what was looked for and not seen.
+    /// The outcomes that a call can have and had not, and what was looked for and not seen.
     pub fn missing(&self) -> Vec<String> {
-        let never = |outcome: &usize| *outcome != WITHDRAWN && self.count(*outcome) == 0;
+        let mut missing = Vec::new();
+        for ((call, outcomes), counts) in CALLS.iter().zip(&self.calls) {
+            let never = outcomes.iter().filter(|&&outcome| counts[outcome] == 0);
+            missing.extend(never.map(|&outcome| format!("{call} {}", name(outcome))));
+        }
         let unseen = self.notes.iter().filter(|(_, &count)| count == 0).map(|(note, _)| note.to_string());
-        (0..OUTCOMES).filter(never).map(name).chain(unseen).collect()
+        missing.into_iter().chain(unseen).collect()
     }
 
     /// How often a call refused with 13.
     pub fn withdrawn(&self) -> u64 {
-        self.count(WITHDRAWN)
-    }
-
-    fn count(&self, outcome: usize) -> u64 {
-        self.calls.iter().map(|call| call[outcome]).sum()
+        self.calls.iter().map(|call| call[WITHDRAWN]).sum()
     }
 }
 
@@ -177,7 +190,11 @@ fn name(outcome: usize) -> String {
 
 impl fmt::Display for Tally {
     fn fmt(&self, out: &mut fmt::Formatter) -> fmt::Result {
-        writeln!(out, "{:<12}{:>12}{:>12}{:>12}{:>12}{:>12}", "calls", "check", "plain", "df", "route", "panel")?;
+        write!(out, "{:<12}", "calls")?;
+        for (call, _) in CALLS {
+            write!(out, "{call:>12}")?;
+        }
+        writeln!(out)?;
         for outcome in 0..OUTCOMES {
             write!(out, "{:<12}", name(outcome))?;
             for call in &self.calls {
@@ -185,7 +202,7 @@ impl fmt::Display for Tally {
             }
             writeln!(out)?;
         }
-        for (title, counts) in [("kinds of cases", &self.kinds), ("searches and the panel", &self.notes)] {
+        for (title, counts) in [("kinds of cases", &self.kinds), ("searches, the panel and records", &self.notes)] {
             writeln!(out, "{title}")?;
             for (name, count) in counts {
                 writeln!(out, "{count:>12}  {name}")?;

@@ -1,9 +1,11 @@
 //! Maps as one draws them, and their bytes. `good` draws maps, some of them in `yards`, `damage` spoils them, `cases`
-//! makes the cases of the fuzzer of both.
+//! makes the cases of the fuzzer of both; `drawings` and `spoiled` do so for the map writer.
 
 pub mod cases;
 pub mod damage;
+pub mod drawings;
 pub mod good;
+pub mod spoiled;
 pub mod yards;
 
 use crate::reference::image::Move;

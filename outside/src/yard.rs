@@ -1,5 +1,6 @@
 //! The engine's C interface (`include/yard.h`), and wrappers of it on slices. The only unsafe code of this folder.
 
+use crate::reference::records::{Drawing, Record};
 use crate::reference::Query;
 
 /// The whole check and both searches of a build of the engine, by the names that its functions have.
@@ -96,6 +97,28 @@ extern "C" {
     ) -> u32;
 
     fn yard_panel(image: *const u8, image_len: usize, source: u16, length: u16, station: u16) -> f64;
+
+    fn yard_records(
+        image: *const u8,
+        image_len: usize,
+        records: *mut Record,
+        records_len: usize,
+        answer: *mut u32,
+        answer_len: usize,
+    ) -> u32;
+
+    fn yard_write(
+        records: *const Record,
+        records_len: usize,
+        stations: u16,
+        pages: u16,
+        directory: *const u8,
+        directory_len: usize,
+        image: *mut u8,
+        image_len: usize,
+        answer: *mut u32,
+        answer_len: usize,
+    ) -> u32;
 }
 
 /// The route to a station by the predecessors that a search left.
@@ -118,4 +141,31 @@ pub fn route(preds: &[u16], station: u16, out: &mut [u16], answer: &mut [u32]) -
 pub fn panel(image: &[u8], query: Query, station: u16) -> f64 {
     // SAFETY: the pointer goes with the length of its slice.
     unsafe { yard_panel(image.as_ptr(), image.len(), query.source, query.strip, station) }
+}
+
+/// The records of an image, at the front of a lent list.
+pub fn records(image: &[u8], list: &mut [Record], answer: &mut [u32]) -> u32 {
+    // SAFETY: each pointer goes with the length of its own slice, and the slices cannot overlap.
+    unsafe {
+        yard_records(image.as_ptr(), image.len(), list.as_mut_ptr(), list.len(), answer.as_mut_ptr(), answer.len())
+    }
+}
+
+/// The image of records, in a lent buffer.
+pub fn write(drawing: Drawing, image: &mut [u8], answer: &mut [u32]) -> u32 {
+    // SAFETY: each pointer goes with the length of its own slice, and the slices cannot overlap.
+    unsafe {
+        yard_write(
+            drawing.records.as_ptr(),
+            drawing.records.len(),
+            drawing.stations,
+            drawing.pages,
+            drawing.directory.as_ptr(),
+            drawing.directory.len(),
+            image.as_mut_ptr(),
+            image.len(),
+            answer.as_mut_ptr(),
+            answer.len(),
+        )
+    }
 }

@@ -2,4 +2,5 @@ pub mod Cases
 pub mod Limits
 pub mod Moves
 pub mod Handover
+pub mod Records
 pub mod Wrong

@@ -7,6 +7,7 @@ use Rattle.common.specs.Pick.{pick}
 use Rattle.image.specs.Image.{nowhere, at-station, on-page, Outcome, accepted, refused}
 use Rattle.route.specs.Route as route
 use Rattle.reply.specs.Reply.{Reply}
+use Rattle.roundtrip.specs.Written.{WriteOutcome, said, refused-record, refused-page}
 use Rattle.telling.specs.declared.Numbers.{Numbers}
 
 -- "Each call returns 0 if accepted, else the refusal's number"; of the answer the first four entries get count,
@@ -32,6 +33,16 @@ abbrev pub ofRoute : route.Answer → Numbers
 ofRoute (route.stations count) = numbers 0 count 0 0 0
 ofRoute route.unreached = numbers 0 0 0 0 0
 ofRoute (route.turnedDown number) = numbers number 0 0 0 0
+
+-- Of an image as records answer[0] is the number of "records of the image"; of a written image answer[2] is "for
+-- refusal 5 the station", for 19 "the index of the record" and for 20 "the page".
+abbrev pub ofRead : Outcome → ℕ → Numbers
+ofRead outcome count = ofOutcome outcome count 0
+
+abbrev pub ofWritten : WriteOutcome → Numbers
+ofWritten (said outcome) = ofOutcome outcome 0 0
+ofWritten (refused-record number index) = numbers number 0 0 index 0
+ofWritten (refused-page number p) = numbers number 0 0 p 0
 
 -- What a call returns and leaves in the answer. "Where answer has four entries or more, the first four get" the
 -- numbers; "A shorter answer is left as it is, and so are later entries."

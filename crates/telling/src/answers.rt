@@ -4,15 +4,20 @@ ghost use mathlib.Core.Path.{_≡_};
 ghost use Rattle.image.specs.Image.{refused, placeOf, outcomeOf};
 ghost use Rattle.reply.specs.Reply.{replyOf};
 ghost use Rattle.route.specs.Route.{meaning};
-ghost use Rattle.telling.specs.Numbers.{numbers, told, toldBy, ofOutcome, ofCheck, ofSearch, ofRoute, Small};
+ghost use Rattle.listing.specs.Found.{outcomeIn, countIn};
+ghost use Rattle.writing.specs.Answers.{outcomeOfWrite};
+ghost use Rattle.telling.specs.Numbers.{numbers, told, toldBy, ofOutcome, ofCheck, ofSearch, ofRoute};
+ghost use Rattle.telling.specs.Numbers.{ofRead, ofWritten, Small};
 use super::Numbers;
 use image::Checked;
 use image::Place;
 use image::Refusal;
+use listing::ReadAnswer;
 use reply::Answer;
 use route::RouteAnswer;
+use writing::WriteAnswer;
 
-pub fn numbers(status: u8, count: usize, reached: usize, place: u32, offset: usize) -> Numbers
+fn numbers(status: u8, count: usize, reached: usize, place: u32, offset: usize) -> Numbers
     ensures value { λ r. ⌜ r ≡ numbers status count reached place offset ⌝ }
 {
     Numbers {
@@ -24,7 +29,7 @@ pub fn numbers(status: u8, count: usize, reached: usize, place: u32, offset: usi
     }
 }
 
-pub fn of_refusal(refusal: Refusal, count: usize) -> Numbers
+fn of_refusal(refusal: Refusal, count: usize) -> Numbers
     ensures value { λ r. ⌜ r ≡ ofOutcome (refused (refusal .number) (placeOf (refusal .place))) count 0 ⌝ }
 {
     let number = refusal.number;
@@ -64,6 +69,26 @@ pub fn of_route(answer: RouteAnswer) -> Numbers
     }
 }
 
+fn of_read(answer: ReadAnswer) -> Numbers
+    ensures value { λ r. ⌜ r ≡ ofRead (outcomeIn answer) (countIn answer) ⌝ }
+{
+    match answer {
+        ReadAnswer::Listed(count) => numbers(0, count, 0, 0, 0),
+        ReadAnswer::Refused(refusal) => of_refusal(refusal, 0),
+    }
+}
+
+fn of_written(answer: WriteAnswer) -> Numbers
+    ensures value { λ r. ⌜ r ≡ ofWritten (outcomeOfWrite answer) ⌝ }
+{
+    match answer {
+        WriteAnswer::Written => numbers(0, 0, 0, 0, 0),
+        WriteAnswer::Refused(refusal) => of_refusal(refusal, 0),
+        WriteAnswer::BadRecord(index) => numbers(19, 0, 0, index, 0),
+        WriteAnswer::FullPage(page) => numbers(20, 0, 0, page as u32, 0),
+    }
+}
+
 // Puts the numbers into the answer where it has four entries or more, and hands back the status.
 pub fn tell(n: Numbers, answer: &mut [u32]) -> u32
     requires small { ⌜ Small n ⌝ }
@@ -86,4 +111,22 @@ pub fn tell_search(answered: Answer, answer: &mut [u32]) -> u32
         told r (now (answer .exit)) ≡ toldBy (ofSearch (replyOf answered)) (now (answer .entry)) ⌝ }
 {
     tell(of_search(answered), answer)
+}
+
+// Tells what reading an image into records answered.
+pub fn tell_read(answered: ReadAnswer, answer: &mut [u32]) -> u32
+    requires small { ⌜ Small (ofRead (outcomeIn answered) (countIn answered)) ⌝ }
+    ensures told { λ r. ⌜ told r (now (answer .exit))
+        ≡ toldBy (ofRead (outcomeIn answered) (countIn answered)) (now (answer .entry)) ⌝ }
+{
+    tell(of_read(answered), answer)
+}
+
+// Tells what writing an image of records answered.
+pub fn tell_written(answered: WriteAnswer, answer: &mut [u32]) -> u32
+    requires small { ⌜ Small (ofWritten (outcomeOfWrite answered)) ⌝ }
+    ensures told { λ r. ⌜
+        told r (now (answer .exit)) ≡ toldBy (ofWritten (outcomeOfWrite answered)) (now (answer .entry)) ⌝ }
+{
+    tell(of_written(answered), answer)
 }

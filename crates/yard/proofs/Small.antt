@@ -1,16 +1,19 @@
 -- How small the numbers of every outcome are: a list and the stations reached number at most 2,048, as does a route,
--- and a fault stands at most at offset 256.
-use Rattle.common.proofs.Ground.{_≡_, refl, Bool, true, false, _||_, List, [], _∷_, ℕ, zero, suc, _≤_, arith, length}
+-- and records 12,240; and a fault stands at most at offset 256.
+use Rattle.common.proofs.Ground.{_≡_, refl, ap, sym, _∙_, subst, not, _+_, _*_, Bool, true, false, _||_, List, [], _∷_}
+use Rattle.common.proofs.Ground.{ℕ, zero, suc, _≤_, arith, length}
 use Rattle.common.proofs.Ground.{length-append, ltb, leb, eqb, ltb-false}
 use Rattle.common.specs.Numbers.{sourceMark, noPred}
 use Rattle.common.specs.Pick.{pick}
+use Rattle.common.proofs.Cases.{by-pick}
 use Rattle.net.specs.Net.{bad}
 use Rattle.net.specs.Search as net
 use Rattle.net.specs.Search.{State, Halt, going, reached, hasTime}
 use Rattle.net.specs.Run.{searchOf}
 use Rattle.net.proofs.Basics.Count.{count-le}
 use Rattle.image.specs.Bytes.{Bytes}
-use Rattle.image.specs.Image.{Outcome, accepted, refused, Place, nowhere, at-station, on-page}
+use Rattle.image.specs.Image.{Outcome, accepted, refused, Place, nowhere, at-station, on-page, firstNotBelow}
+use Rattle.image.specs.Image.{afterHeading}
 use Rattle.whole.specs.Check.{wholeCheck}
 use Rattle.whole.proofs.Outcomes.{PlaceBy256, whole-by-256}
 use Rattle.route.specs.Route as route
@@ -21,7 +24,12 @@ use Rattle.map.proofs.Offered.{bad-page}
 use Rattle.reply.specs.Reply.{Query, frameOf, pagesOf, Lent, ended, callCheck, onMap, afterCheck, searched}
 use Rattle.reply.proofs.Checking.{NamesNoPage, Admitted, Decided, turned-down, passed, decided}
 use Rattle.reply.proofs.Searches.{few-stations, refused-of, short-of}
-use Rattle.telling.specs.Numbers.{numbers, ofOutcome, ofCheck, ofSearch, ofRoute, Small}
+use Rattle.move_record.specs.declared.MoveRecord.{MoveRecord}
+use Rattle.roundtrip.specs.Records.{recordsOf, listing, readCheck, listed, readCall}
+use Rattle.roundtrip.specs.Written.{WriteOutcome, said, refused-record, refused-page, shapeCheck, rising, firstFull}
+use Rattle.roundtrip.specs.Written.{recordsCheck, afterShape, writeCheck, writing, writeCall}
+use Rattle.roundtrip.specs.Promises.{ReadPromised, WritePromised}
+use Rattle.telling.specs.Numbers.{numbers, ofOutcome, ofCheck, ofSearch, ofRoute, ofRead, ofWritten, Small}
 
 sized : (s c r p o : ℕ) → c ≤ 12240 → r ≤ 2048 → o ≤ 256 → Small (numbers s c r p o)
 sized s c r p o few reached near = record { count = few; reached = reached; offset = near }
@@ -29,14 +37,80 @@ sized s c r p o few reached near = record { count = few; reached = reached; offs
 no-numbers : (s p : ℕ) → Small (numbers s 0 0 p 0)
 no-numbers s p = sized s 0 0 p 0 (omega arith) (omega arith) (omega arith)
 
+by-place : (o : Outcome) (count : ℕ) → count ≤ 12240 → PlaceBy256 o → Small (ofOutcome o count 0)
+by-place accepted count few k = sized 0 count 0 0 0 few (omega arith) (omega arith)
+by-place (refused number nowhere) count few k = sized number count 0 0 0 few (omega arith) (omega arith)
+by-place (refused number (at-station station)) count few k =
+    sized number count 0 station 0 few (omega arith) (omega arith)
+by-place (refused number (on-page p offset)) count few k = sized number count 0 p offset few (omega arith) k
+
 pub small-check : (image : List ℕ) → Small (ofCheck (wholeCheck image))
-small-check image = by-outcome (wholeCheck image) (whole-by-256 image)
-  where
-    by-outcome : (o : Outcome) → PlaceBy256 o → Small (ofCheck o)
-    by-outcome accepted k = no-numbers 0 0
-    by-outcome (refused number nowhere) k = no-numbers number 0
-    by-outcome (refused number (at-station station)) k = no-numbers number station
-    by-outcome (refused number (on-page p offset)) k = sized number 0 0 p offset (omega arith) (omega arith) k
+small-check image = by-place (wholeCheck image) 0 (omega arith) (whole-by-256 image)
+
+-- An image as records: the whole check, then 7.
+module _ (image : List ℕ) (list : List MoveRecord) where
+  read-by-256 : PlaceBy256 (readCheck image (length list))
+  unfolding readCheck
+  read-by-256 = by-whole (wholeCheck image) (whole-by-256 image)
+    where
+      by-whole : (o : Outcome) → PlaceBy256 o
+          → PlaceBy256 (afterHeading o
+          (pick (ltb (length list) (length (recordsOf image))) (refused 7 nowhere) accepted))
+      by-whole accepted k = by-pick PlaceBy256 (ltb (length list) (length (recordsOf image))) (λ short. tt) (λ long. tt)
+      by-whole (refused number place) k = k
+
+  outcome-of : (o : Outcome) → listed o image list .outcome ≡ o
+  outcome-of accepted = refl
+  outcome-of (refused number place) = refl
+
+  pub small-read : (left : List MoveRecord) (outcome : Outcome) (count : ℕ)
+      → ReadPromised image list (listing outcome count left) → Small (ofRead outcome count)
+  unfolding readCall
+  small-read left outcome count promised =
+      let is : outcome ≡ readCheck image (length list) =
+      ap (λ h. h .outcome) (promised .outcome) ∙ outcome-of (readCheck image (length list)) in
+      by-place outcome count (promised .few) (subst PlaceBy256 (sym is) read-by-256)
+
+-- A written image: 2 to 5 name no offset, and 19 and 20 have one number each.
+abbrev WrittenBy256 : WriteOutcome → Type 0
+WrittenBy256 (said o) = PlaceBy256 o
+WrittenBy256 (refused-record number index) = Unit {0}
+WrittenBy256 (refused-page number p) = Unit {0}
+
+module _ (size pages : ℕ) (directory : List ℕ) (room : ℕ) where
+  shape-by-256 : PlaceBy256 (shapeCheck size pages directory room)
+  unfolding shapeCheck
+  shape-by-256 =
+      by-pick PlaceBy256 (eqb size 0 || ltb 2048 size) (λ two. tt) (λ n.
+      by-pick PlaceBy256 (eqb pages 0 || ltb 240 pages) (λ three. tt) (λ p.
+      by-pick PlaceBy256 (not (eqb room (4 + size + 256 * pages)) || not (eqb (length directory) size)) (λ four. tt)
+      (λ long.
+      by-pick PlaceBy256 (ltb (firstNotBelow pages directory) size) (λ five. tt) (λ good. tt))))
+
+  write-by-256 : (records : List MoveRecord) → WrittenBy256 (writeCheck size pages directory room records)
+  unfolding writeCheck
+  write-by-256 records = by-shape (shapeCheck size pages directory room) shape-by-256
+    where
+      by-shape : (o : Outcome) → PlaceBy256 o → WrittenBy256 (afterShape o (recordsCheck size pages directory records))
+      by-shape accepted k =
+          by-pick WrittenBy256 (ltb (rising size records) (length records)) (λ nineteen. tt) (λ all.
+          by-pick WrittenBy256 (ltb (firstFull directory records pages 0) pages) (λ twenty. tt) (λ fit. tt))
+      by-shape (refused number place) k = k
+
+small-outcome : (o : WriteOutcome) → WrittenBy256 o → Small (ofWritten o)
+small-outcome (said o) k = by-place o 0 (omega arith) k
+small-outcome (refused-record number index) k = no-numbers number index
+small-outcome (refused-page number p) k = no-numbers number p
+
+pub small-written : (size pages : ℕ) (directory : List ℕ) (records : List MoveRecord) (buffer left : List ℕ)
+    (outcome : WriteOutcome) → WritePromised size pages directory records buffer (writing outcome left)
+    → Small (ofWritten outcome)
+unfolding writeCall
+small-written size pages directory records buffer left outcome promised =
+    let is : outcome ≡ writeCheck size pages directory (length buffer) records =
+    ap (λ h. h .outcome) (promised .outcome) in
+    small-outcome outcome
+    (subst WrittenBy256 (sym is) (write-by-256 size pages directory (length buffer) records))
 
 -- a refusal before any page
 small-place : (number : ℕ) (place : Place) → NamesNoPage (refused number place)

@@ -2,7 +2,8 @@
 // in entries. What a call answers becomes its status and the four numbers of `answer` (telling/specs/Numbers.antt);
 // what it does to the lent tables is what the engine's call does. A search promises a C caller what it promises every
 // caller (specs/Searches.antt), of the reply that the numbers tell and of the tables as they are left. The panel's call
-// alone has no numbers: its answer is one float (panel/specs/Panel.antt, `outside`).
+// alone has no numbers: its answer is one float (panel/specs/Panel.antt, `outside`). The map writer's two calls stand
+// in writer.rt.
 
 ghost use mathlib.Core.Path.{_≡_};
 ghost use Rattle.net.specs.Search.{plainSearch, dfSearch};
@@ -13,6 +14,9 @@ ghost use Rattle.search.specs.Promises.{Promised, DfPromised};
 ghost use Rattle.panel.specs.Promises.{OutsidePromised};
 ghost use Rattle.telling.specs.Numbers.{told, toldBy, ofCheck, ofRoute};
 ghost use Rattle.yard.specs.Searches.{SearchTold};
+
+pub mod writer;
+
 use telling::answers::of_check;
 use telling::answers::of_route;
 use telling::answers::tell;

@@ -1,0 +1,10 @@
+-- The laws behind the functions' proofs. Other crates cite them as Rattle.listing.proofs.NAME.
+
+-- The records of an image by stations.
+pub mod Records
+-- How far a page is read; the records of one station.
+pub mod Reached
+pub mod Station
+-- The records of all stations, and what is answered.
+pub mod Stations
+pub mod Finding

@@ -1,0 +1,159 @@
+-- How far a page is read: at its front, past a station that is on another page, behind the station that is due, and
+-- behind each of its moves. What is left is spelled at the offset, so that the command there is known from it.
+use Rattle.common.proofs.Ground.{_≡_, _≢_, refl, ap, sym, _∙_, Bool, true, false, List, [], _∷_, ℕ, _+_, _≤_, _<_}
+use Rattle.common.proofs.Ground.{arith, length, getD, drop, length-drop, drop-drop, drop-cons, add-one, eq-eqb, ne-eqb}
+use Rattle.common.proofs.Cases.{never}
+use Rattle.commands.specs.declared.Move.{Move}
+use Rattle.commands.specs.declared.Command.{Command}
+use Rattle.commands.specs.declared.Command.the-variants.{End, Station, MoveTo, Limited, Fault}
+use Rattle.commands.specs.Commands.{lengthOf, commandAt}
+use Rattle.image.specs.Bytes.{Bytes}
+use Rattle.image.specs.Image.{directoryOf, pageBytes}
+use Rattle.image.proofs.Parts.{bytes-page}
+use Rattle.page.specs.Reading.{good, Leaving, readingOf, movesIn}
+use Rattle.page.specs.Good.{stationsFrom, names, codeOf, spellMoves, spellStations, spelled}
+use Rattle.page.proofs.Reading.Steps.{IsMove, unlimited, limited}
+use Rattle.page.proofs.Good.Promise.{promise}
+use Rattle.page.proofs.Good.Spelling.{read-end, read-station, read-move, behind-move}
+use Rattle.whole.proofs.Accepted.{GoodPage}
+use Rattle.roundtrip.specs.Records.{contentIn}
+use Rattle.listing.specs.Stations.{Reached}
+
+-- Whether a command is a move.
+abbrev pub isMove : Command → Bool
+isMove End = false
+isMove (Station v) = false
+isMove (MoveTo m) = true
+isMove (Limited m) = true
+isMove (Fault number) = false
+
+move-is : {m : Move} {code : ℕ} {x : Command} → IsMove m code x → isMove x ≡ true
+move-is unlimited = refl
+move-is limited = refl
+
+same-move : {m n : Move} {code other : ℕ} {x y : Command} → IsMove m code x → IsMove n other y → x ≡ y
+    → (m ≡ n) × (code ≡ other)
+same-move unlimited unlimited e = (cc, refl)
+same-move unlimited limited e = never (cc)
+same-move limited unlimited e = never (cc)
+same-move limited limited e = (cc, refl)
+
+-- The stations that are left on a page, from station u on: u is one of them, or it is not.
+module _ (directory : List ℕ) (p u : ℕ) (h : u < length directory) where
+  listed-own : getD directory u 0 ≡ p
+      → stationsFrom p u (drop u directory) ≡ u ∷ stationsFrom p (u + 1) (drop (u + 1) directory)
+  unfolding stationsFrom
+  listed-own e = simp (drop-cons directory u 0 h, eq-eqb _ _ e, add-one)
+
+  listed-other : getD directory u 0 ≢ p
+      → stationsFrom p u (drop u directory) ≡ stationsFrom p (u + 1) (drop (u + 1) directory)
+  unfolding stationsFrom
+  listed-other e = simp (drop-cons directory u 0 h, ne-eqb _ _ e, add-one)
+
+module _ (image : List ℕ) (p : ℕ) where
+  -- the front of a good page
+  pub reached-front : Bytes image → GoodPage image p → Reached image p 0 0 []
+  unfolding readingOf spellMoves
+  reached-front bytes page =
+      let kept = promise (directoryOf image) p (pageBytes image p) (bytes-page image p bytes) (page .before)
+      (page .stations) (page .reads) in
+      record {
+        left = page .stations;
+        named = kept .content .named;
+        same = λ u l. ap (λ r. movesIn (contentIn r) u) (sym (page .reads));
+        zeros = kept .zeros;
+        spells = kept .spells;
+      }
+
+  -- a station of another page
+  pub reached-other : {u at : ℕ} → u < length (directoryOf image) → getD (directoryOf image) u 0 ≢ p
+      → Reached image p u at [] → Reached image p (u + 1) at []
+  reached-other {u} h e r = record {
+    left = r .left;
+    named = r .named ∙ listed-other (directoryOf image) p u h e;
+    same = λ v l. r .same v (omega arith);
+    zeros = r .zeros;
+    spells = r .spells;
+  }
+
+  -- The station that is due: its moves stand behind it.
+  behind-station : (u at : ℕ) (left : List Leaving) (zeros : ℕ)
+      → names left ≡ u ∷ stationsFrom p (u + 1) (drop (u + 1) (directoryOf image))
+      → ((v : ℕ) → u ≤ v → movesIn left v ≡ movesIn (contentIn (readingOf image p)) v)
+      → drop at (pageBytes image p) ≡ spelled left zeros
+      → Reached image p (u + 1) (at + lengthOf 1) (movesIn (contentIn (readingOf image p)) u)
+  unfolding movesIn spellStations
+  behind-station u at [] zeros n same e = never (cc)
+  behind-station u at (x ∷ xs) zeros n same e =
+      let own : x .station ≡ u = cc in
+      let moves : x .moves ≡ movesIn (contentIn (readingOf image p)) u =
+      rw (eq-eqb (x .station) u own) at (same u (omega arith)) in
+      record {
+        left = xs;
+        named = cc;
+        same = λ v l. rw (ne-eqb (x .station) v (λ q. omega arith)) at (same v (omega arith));
+        zeros = zeros;
+        spells =
+            sym (drop-drop 3 at (pageBytes image p)) ∙ ap (drop 3) e ∙
+            ap (λ m. spellMoves m (spelled xs zeros)) moves;
+      }
+
+  pub reached-station : {u at : ℕ} → u < length (directoryOf image) → getD (directoryOf image) u 0 ≡ p
+      → Reached image p u at []
+      → Reached image p (u + 1) (at + lengthOf 1) (movesIn (contentIn (readingOf image p)) u)
+  unfolding spellMoves
+  reached-station {u} {at} h e r =
+      behind-station u at (r .left) (r .zeros) (r .named ∙ listed-own (directoryOf image) p u h e) (r .same) (r .spells)
+
+  module _ (at : ℕ) where
+    abbrev page : List ℕ
+    page = pageBytes image p
+
+    left-inside : (left : List Leaving) (zeros : ℕ) → drop at page ≡ spelled left zeros → at < length page
+    unfolding spellStations
+    left-inside [] zeros e = omega (arith, length-drop at page, ap length e)
+    left-inside (x ∷ xs) zeros e = omega (arith, length-drop at page, ap length e)
+
+    -- Something stands there, at least the page's end.
+    pub reached-inside : {after : ℕ} (moves : List Move) → Reached image p after at moves → at < length page
+    unfolding spellMoves
+    reached-inside [] r = left-inside (r .left) (r .zeros) (r .spells)
+    reached-inside (m ∷ rest) r = omega (arith, length-drop at page, ap length (r .spells))
+
+    -- behind the last move no move stands
+    no-move : (left : List Leaving) (zeros : ℕ) → drop at page ≡ spelled left zeros → isMove (commandAt page at) ≡ false
+    unfolding spellStations
+    no-move [] zeros e = ap isMove (read-end page at _ e)
+    no-move (x ∷ xs) zeros e = ap isMove (read-station page at (x .station) _ e)
+
+    -- A move stands there: it is the first that is left, and behind it the others are.
+    pub reached-move : {after code : ℕ} {m : Move} {x : Command} (moves : List Move) → Reached image p after at moves
+        → IsMove m code x → commandAt page at ≡ x
+        → (rest : List Move) × (moves ≡ m ∷ rest) × Reached image p after (at + lengthOf code) rest
+    unfolding spellMoves
+    reached-move [] r is e =
+        never (let none = no-move (r .left) (r .zeros) (r .spells) in let some = move-is is in cc)
+    reached-move {after} {code} {m} (n ∷ rest) r is e =
+        let (y, reads, stands) = read-move page at n _ (r .spells) in
+        let same = same-move reads is (sym stands ∙ e) in
+        let width = lengthOf (codeOf n) in
+        let behind = sym (drop-drop width at page) ∙ ap (drop width) (r .spells) ∙ behind-move n _ in (
+          rest,
+          ap (λ k. k ∷ rest) (same .0),
+          record {
+            left = r .left;
+            named = r .named;
+            same = r .same;
+            zeros = r .zeros;
+            spells = rw (same .1) at behind;
+          },
+        )
+
+    -- No move stands there: none is left.
+    pub reached-end : {after : ℕ} {x : Command} (moves : List Move) → Reached image p after at moves
+        → commandAt page at ≡ x → isMove x ≡ false → moves ≡ []
+    unfolding spellMoves
+    reached-end [] r e none = refl
+    reached-end (m ∷ rest) r e none =
+        let (y, reads, stands) = read-move page at m _ (r .spells) in
+        never (let some = move-is reads in cc)

@@ -1,0 +1,3 @@
+-- The law behind the writer's loop.
+
+mod Taken
