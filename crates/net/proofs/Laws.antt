@@ -7,7 +7,7 @@ use Rattle.common.proofs.Cases.{le-or-lt}
 use Rattle.net.specs.declared.Choice.the-variants.{Station, Nobody}
 use Rattle.common.specs.Numbers.{noTime}
 use Rattle.common.specs.Costs.{cost, noCost}
-use Rattle.net.specs.Net.{Move, Page, good, Frame, Goes, Walk, here, onward, timesIn, entryStations}
+use Rattle.net.specs.Net.{Move, Page, good, Frame, Goes, timesIn, entryStations}
 use Rattle.net.specs.Net.{onePageReads, count}
 use Rattle.net.specs.Search.{State, going, refused, costOf, predOf, isSettled, isFresh, settle, withPage, start}
 use Rattle.net.specs.Search.{reached}
@@ -17,7 +17,7 @@ use Rattle.net.specs.Search.{stepBy, searchBy, plainSearch, dfSearch}
 use Rattle.net.specs.Demands.{ListOf, AgreeOn}
 use Rattle.net.proofs.Sound.{Sound}
 use Rattle.net.proofs.LeastCosts.{LeastCost, LeastCosts, FirstBad}
-use Rattle.net.proofs.Fixed.{spells-walk}
+use Rattle.net.proofs.Fixed.{Among, walk-among, spells-walk}
 use Rattle.net.specs.Ways.{afterPlain, afterDf, withinDf, Held}
 use Rattle.net.proofs.Basics.Count.{count-le}
 use Rattle.net.proofs.Basics.Lists.{part-reads}
@@ -259,12 +259,7 @@ map-sound F page source few none inside fits = record {
 }
 
 -- Fewer moves: where every move of one net is a move of another, no station has a lesser cost in the first.
-module _ (F : Frame) (page fewer : ℕ → Page) (source : ℕ)
-    (among : (u v w : ℕ) → Goes F fewer u v w → Goes F page u v w) where
-  walk-among : {v t m : ℕ} → Walk F fewer source v t m → Walk F page source v t m
-  walk-among here = here
-  walk-among (onward {u = u} v w walk goes) = onward v w (walk-among walk) (among u v w goes)
-
+module _ (F : Frame) (page fewer : ℕ → Page) (source : ℕ) (among : Among F fewer F page) where
   pub fewer-moves-no-less : {costs preds later others : List ℕ} {r s : ℕ} → LeastCosts F page source costs preds r
       → LeastCosts F fewer source later others s → (v : ℕ) → getD costs v (F .none) ≤ getD later v (F .none)
   fewer-moves-no-less {costs} {later = later} all few v =
@@ -275,7 +270,8 @@ module _ (F : Frame) (page fewer : ℕ → Page) (source : ℕ)
       (le-or-lt (F .none) (getD costs v (F .none))))
       (λ has.
       let l = few .spells v has in
-      omega (arith, l .is, all .least v (l .time) (l .moves) (walk-among (spells-walk F fewer source (l .spells)))))
+      let le = all .least v (l .time) (l .moves) (walk-among among (spells-walk F fewer source (l .spells))) in
+      omega (arith, l .is))
       (le-or-lt (F .none) (getD later v (F .none)))
 
 -- Locality: two nets that agree on the pages listed by the first one's search get the same result in every part,

@@ -2,21 +2,22 @@
 -- a walk of fewer moves than there are stations; so its parts are the walk's time and moves, and one move more is in
 -- order too. By induction along any walk, those that repeat stations included, the pair of its end is no more than the
 -- walk's. Whether pages are bad does not matter to walks: the search is asked of the net in which bad pages are empty.
-use Rattle.common.proofs.Ground.{_≡_, refl, sym, _∙_, ap, false, ⊎-elim, List, [], _∷_, _++_, map, ℕ, suc, _+_, _*_}
+use Rattle.common.proofs.Ground.{_≡_, refl, sym, _∙_, false, ⊎-elim, List, [], _∷_, _++_, map, ℕ, suc, _+_, _*_}
 use Rattle.common.proofs.Ground.{_≤_, _<_, arith, mul-le-mul-right, getD, ltb, lt-ltb, le-ltb}
 use lib.ListN.{length-map, List·getD-map}
 use Rattle.common.proofs.Cases.{le-or-lt, never}
 use Rattle.common.proofs.Costs.{costs-order, numbers-order}
 use Rattle.common.specs.Numbers.{noTime}
 use Rattle.common.specs.Costs.{NoMore, cost, timeIn, movesIn, noCost}
-use Rattle.net.specs.Net.{Page, good, bad, Frame, isGood, movesOf, Goes, Walk, here, onward, count}
+use Rattle.net.specs.Net.{Page, good, bad, Frame, isGood, movesOf, Walk, here, onward, count}
 use Rattle.net.specs.Search.{State, Halt, going, refused, timeTable, moveTable, plainSearch, dfSearch, reached}
 use Rattle.net.specs.Demands.{timeAt, movesAt, LeastTimes, RefusedPage}
 use Rattle.net.specs.Ways.{Fits, LeastWalk, OneNumber}
 use Rattle.net.proofs.Sound.{Sound}
 use Rattle.net.proofs.LeastCosts.{LeastCost, Spelled, LeastCosts, FirstBad}
 use Rattle.net.proofs.Basics.Count.{count-same}
-use Rattle.net.proofs.Fixed.{more-more, onward-more, spells-walk, least-times-fix}
+use Rattle.net.proofs.Fixed.{more-more, onward-more, Among, walk-among, spells-walk, itself}
+use Rattle.net.proofs.Fixed.{least-times-fix}
 use Rattle.net.proofs.Laws.{plain-least-costs, df-least-costs, plain-first-bad, df-first-bad, plain-held}
 use Rattle.net.proofs.Laws.{df-held, page-loop-held, same-halt, same-choice, chosen-in-order}
 use Rattle.net.proofs.Laws.{fewer-moves-no-less}
@@ -40,19 +41,11 @@ module _ (F : Frame) (page : ℕ → Page) (source : ℕ) (ok : Sound F page sou
   abbrev shut : ℕ → Page
   shut p = closed (page p)
 
-  goes-shut : (u v w : ℕ) → Goes F page u v w → Goes F shut u v w
+  goes-shut : Among F page F shut
   goes-shut u v w g = rw (closed-moves (page (F .pageOf u)) u) g
 
-  goes-open : (u v w : ℕ) → Goes F shut u v w → Goes F page u v w
+  goes-open : Among F shut F page
   goes-open u v w g = rw (closed-moves (page (F .pageOf u)) u) at g
-
-  walk-shut : {v t m : ℕ} → Walk F page source v t m → Walk F shut source v t m
-  walk-shut here = here
-  walk-shut (onward {u = u} v w k g) = onward v w (walk-shut k) (goes-shut u v w g)
-
-  walk-open : {v t m : ℕ} → Walk F shut source v t m → Walk F page source v t m
-  walk-open here = here
-  walk-open (onward {u = u} v w k g) = onward v w (walk-open k) (goes-open u v w g)
 
   shut-sound : Sound F shut source
   shut-sound = record {
@@ -109,15 +102,15 @@ module _ (F : Frame) (page : ℕ → Page) (source : ℕ) (ok : Sound F page sou
 
   pub least-walk : (v t m : ℕ) → Walk F page source v t m → (u n : ℕ) × LeastWalk F page source v u n
   least-walk v t m k =
-      let b = best (walk-shut k) in
-      let own = walk-open (spells-walk F shut source (b .spells)) in (
+      let b = best (walk-among goes-shut k) in
+      let own = walk-among goes-open (spells-walk F shut source (b .spells)) in (
         b .time,
         b .moves,
         record {
           walk = own;
           fits = fits own (b .few);
-          least = λ u n j. no-walk-less (walk-shut j) b;
-          cheapest = λ u n j. omega (arith, b .is, costs .least v u n (walk-shut j));
+          least = λ u n j. no-walk-less (walk-among goes-shut j) b;
+          cheapest = λ u n j. omega (arith, b .is, costs .least v u n (walk-among goes-shut j));
         },
       )
 
@@ -232,14 +225,14 @@ module _ (F : Frame) (page : ℕ → Page) (source : ℕ) (ok : Sound F page sou
       × (moveTable (plainSearch F page source) ≡ moveTable (dfSearch F page source))
       × ((plainSearch F page source) .preds ≡ (dfSearch F page source) .preds)
   same-tables g =
-      least-times-fix F page source (plain-least-times (same-halt F page source ok ∙ g)) (df-least-times g)
+      let fixed = least-times-fix (itself F page) (plain-least-times (same-halt F page source ok ∙ g))
+      (df-least-times g) in
+      (fixed .0, fixed .1, fixed .2)
 
   pub same-reached : (dfSearch F page source) .halt ≡ going
       → reached F (plainSearch F page source) ≡ reached F (dfSearch F page source)
   same-reached g =
-      plain-least-times (same-halt F page source ok ∙ g) .count ∙
-      ap (λ times. count (λ v. ltb (timeAt times v) noTime) (F .size)) (same-tables g .0) ∙
-      sym (df-least-times g .count)
+      least-times-fix (itself F page) (plain-least-times (same-halt F page source ok ∙ g)) (df-least-times g) .3
 
   -- Which page is refused, from costs to times and moves.
   refused-page : (number p offset : ℕ) → FirstBad F page source number p offset
@@ -295,7 +288,7 @@ module _ (F : Frame) (page : ℕ → Page) (source : ℕ) (ok : Sound F page sou
 
 -- Fewer moves: where every move of one net is a move of another, a station's time and moves in the first are no less.
 module _ (F : Frame) (page fewer : ℕ → Page) (source : ℕ)
-    (among : (u v w : ℕ) → Goes F fewer u v w → Goes F page u v w) (none : F .none ≡ noCost) where
+    (among : Among F fewer F page) (none : F .none ≡ noCost) where
   pub fewer-moves-no-more : {costs preds later others : List ℕ} {r s : ℕ} → LeastCosts F page source costs preds r
       → LeastCosts F fewer source later others s → (v : ℕ)
       → NoMore (timeAt (map timeIn costs) v) (movesAt (map movesIn costs) v) (timeAt (map timeIn later) v)

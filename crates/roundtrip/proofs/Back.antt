@@ -28,7 +28,8 @@ use Rattle.roundtrip.proofs.Contents.{content-good, content-moves, cont
 use Rattle.roundtrip.proofs.Images.{WrittenParts, written-parts, image-by-parts}
 use Rattle.roundtrip.proofs.Drawable.{Drawable, drawable, draws}
 
--- The moves of a station of an image, and its records as those of the stations one after the other.
+-- The moves of a station of an image, and its records as those of the stations one after the other, which give each
+-- station its moves.
 abbrev pub movesAt : List ℕ → ℕ → List Move
 movesAt image u = movesIn (contentIn (readingOf image (getD (directoryOf image) u 0))) u
 
@@ -36,6 +37,11 @@ pub records-grouped : (image : List ℕ) (count u : ℕ) → recordsFrom image c
 unfolding recordsFrom recordsAt grouped
 records-grouped image zero u = refl
 records-grouped image (suc count) u = ap (λ l. recordsAt image u ++ l) (records-grouped image count (suc u))
+
+pub moves-listed : (image : List ℕ) (u : ℕ) → u < stationCount image → movesFor (recordsOf image) u ≡ movesAt image u
+moves-listed image u h =
+    ap (λ l. movesFor l u) (records-grouped image (stationCount image) 0) ∙
+    moves-grouped (movesAt image) (stationCount image) 0 u (omega arith) (omega arith)
 
 module _ (size pages : ℕ) (directory : List ℕ) (room : ℕ) (records : List MoveRecord)
     (d : Drawable size pages directory room records) (fit : AllFit records)
@@ -127,11 +133,6 @@ module _ (image : List ℕ) (bytes : Bytes image) (w : Wholly image) (f : Formed
       ap (λ q. movesIn (contentIn (readingOf image q)) u) on ∙
       ap (λ r. movesIn (contentIn r) u) (w .page p h .reads)
 
-  moves-listed : (u : ℕ) → u < stationCount image → movesFor listed u ≡ movesAt image u
-  moves-listed u h =
-      ap (λ l. movesFor l u) (records-grouped image (stationCount image) 0) ∙
-      moves-grouped (movesAt image) (stationCount image) 0 u (omega arith) (omega arith)
-
   moves-fine : (u : ℕ) → u < stationCount image → GoodMoves (stationCount image) u 0 (movesAt image u)
   moves-fine u h =
       let p = getD directory u 0 in
@@ -154,7 +155,7 @@ module _ (image : List ℕ) (bytes : Bytes image) (w : Wholly image) (f : Formed
       (page .reads) in
       let content : contentFor directory listed p ≡ page .stations =
       content-again directory p listed (page .stations) (k .content .named)
-      (λ u inside on. moves-listed u (omega (arith, f .directory)) ∙ moves-read p u h on) in
+      (λ u inside on. moves-listed image u (omega (arith, f .directory)) ∙ moves-read p u h on) in
       let long = ap length (k .spells) ∙ length-spelled (page .stations) (k .zeros) in
       let need : needOf directory listed p ≡ suc (length (spellStations (page .stations) [])) =
       ap (λ l. suc (length (spellStations l []))) content in
