@@ -25,8 +25,8 @@ cases: layers
 # What would look at page bytes, by the names that the sources use: a slice under another name escapes this.
 LOOKS := \b(page|image)\[|(byte_at|word_at|part_of|command_at)\((page|image)\b
 SEE_NO_BYTES := layout queue cells relax rows page whole work reference engine tables reply \
-    search panel line coil move_record writing records telling yard
-# Not among them: listing, which reads the moves of a good page command by command, and imaging, which writes pages.
+    search panel line coil move_record listing writing records telling yard
+# Not among them: by_station, which reads the moves of a good page command by command, and imaging, which writes pages.
 
 # Looks in the crates that are to see no page bytes for an index of, or a byte read from, a slice called page or image.
 layers:

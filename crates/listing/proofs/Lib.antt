@@ -2,8 +2,7 @@
 
 -- The records of an image by stations.
 pub mod Records
--- How far a page is read; the records of one station.
-pub mod Reached
+-- The records of one station.
 pub mod Station
 -- The records of all stations, and what is answered.
 pub mod Stations

@@ -1,19 +1,20 @@
 -- The records of one station are kept move by move: what was kept, with the records of the moves that are left, is all
 -- that is to be kept.
-use Rattle.common.proofs.Ground.{_≡_, refl, ap, _∙_, false, List, [], _++_, map, append-assoc, append-nil, ℕ}
+use Rattle.common.proofs.Ground.{_≡_, refl, ap, _∙_, List, [], _++_, map, append-assoc, append-nil, ℕ}
 use Rattle.common.proofs.Ground.{_+_, _≤_, _<_, arith, length, getD}
 use lib.ListN.{length-map}
 use Rattle.commands.specs.declared.Move.{Move}
-use Rattle.commands.specs.declared.Command.{Command}
-use Rattle.commands.specs.Commands.{lengthOf, commandAt}
+use Rattle.commands.specs.Commands.{lengthOf}
 use Rattle.image.specs.Image.{directoryOf, pageBytes}
 use Rattle.page.specs.Reading.{readingOf, movesIn}
-use Rattle.page.proofs.Reading.Steps.{IsMove}
 use Rattle.move_record.specs.Kept.{withRecord, keptFrom}
 use Rattle.roundtrip.specs.Records.{contentIn, recordFor, recordsAt}
-use Rattle.listing.specs.Stations.{Reached, StationKept}
+use Rattle.by_station.specs.declared.NextMove.the-variants.{Found, Over}
+use Rattle.by_station.specs.Next.{nextMove}
+use Rattle.by_station.specs.Reached.{Reached}
+use Rattle.by_station.proofs.Reached.{reached-station, reached-move, reached-over}
+use Rattle.listing.specs.Stations.{StationKept}
 use Rattle.move_record.proofs.Keeping.{length-with, keep-one}
-use Rattle.listing.proofs.Reached.{isMove, reached-station, reached-move, reached-end}
 
 -- Of the station's moves these are left, and stand at the offset.
 pub record KeepingStation (image : List ℕ) (p u first : ℕ) (before : List ℕ) (at k : ℕ) (kept : List ℕ)
@@ -39,32 +40,30 @@ module _ (image : List ℕ) (p u first : ℕ) (before : List ℕ) where
       }
 
   module _ (at k : ℕ) (kept : List ℕ) (keeping : KeepingStation image p u first before at k kept) where
-    module _ {m : Move} {code : ℕ} {x : Command} (is : IsMove m code x)
-        (stands : commandAt (pageBytes image p) at ≡ x)
+    module _ {m : Move} {behind : ℕ} (stands : nextMove (pageBytes image p) at ≡ Found m behind)
         (memory : length before ≡ 48960) (room : first + length (recordsAt image u) ≤ 12240) where
       pub keeping-room : (length kept ≡ 48960) × (k < 12240)
       keeping-room =
-          let (rest, next, behind) = reached-move image p at (keeping .moves) (keeping .reached) is stands in
+          let (rest, next, reached) = reached-move image p at (keeping .moves) (keeping .reached) stands in
           (keeping .memory ∙ memory, omega (arith, keeping .counted, ap length next))
 
-      pub keeping-move : KeepingStation image p u first before (at + lengthOf code) (k + 1)
+      pub keeping-move : KeepingStation image p u first before behind (k + 1)
           (withRecord kept k (recordFor u m))
       keeping-move =
-          let (rest, next, behind) = reached-move image p at (keeping .moves) (keeping .reached) is stands in
+          let (rest, next, reached) = reached-move image p at (keeping .moves) (keeping .reached) stands in
           let fits = keeping-room in
           let one = keep-one kept k (recordFor u m) (omega arith) in
           record {
             moves = rest;
             memory = length-with kept k (recordFor u m) ∙ keeping .memory;
-            reached = behind;
+            reached = reached;
             counted = omega (arith, keeping .counted, ap length next);
             records = rw (one, append-assoc) (rw next at (keeping .records));
           }
 
-    pub keeping-end : {x : Command} → commandAt (pageBytes image p) at ≡ x → isMove x ≡ false
-        → StationKept image p u first before at k kept
-    keeping-end stands none =
-        let last = reached-end image p at (keeping .moves) (keeping .reached) stands none in
+    pub keeping-end : nextMove (pageBytes image p) at ≡ Over → StationKept image p u first before at k kept
+    keeping-end none =
+        let last = reached-over image p at (keeping .moves) (keeping .reached) none in
         record {
           memory = keeping .memory;
           reached = rw last at (keeping .reached);

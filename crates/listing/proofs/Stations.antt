@@ -11,9 +11,10 @@ use Rattle.whole.proofs.Accepted.{wholly}
 use Rattle.move_record.specs.Kept.{keptFrom}
 use Rattle.roundtrip.specs.Records.{recordsAt, recordsFrom, recordsOf}
 use Rattle.roundtrip.proofs.Few.{few-records-of}
-use Rattle.listing.specs.Stations.{Reached, StationKept}
+use Rattle.by_station.specs.Reached.{Reached}
+use Rattle.by_station.proofs.Reached.{reached-front, reached-other}
+use Rattle.listing.specs.Stations.{StationKept}
 use Rattle.listing.proofs.Records.{records-next, records-most}
-use Rattle.listing.proofs.Reached.{reached-front, reached-other}
 
 -- The stations below u came: their records are kept, and each page is read up to the others.
 pub record KeepingStations (image offsets : List ℕ) (k u : ℕ) (kept : List ℕ) : Type 0 where

@@ -9,20 +9,20 @@ ghost use Rattle.whole.specs.Check.{wholeCheck};
 ghost use Rattle.move_record.specs.Kept.{keptFrom, withRecord};
 ghost use Rattle.roundtrip.specs.Records.{recordFor, recordsAt, recordsOf};
 ghost use Rattle.listing.specs.Found.{countIn, Found};
-ghost use Rattle.listing.specs.Stations.{Reached, StationKept};
-use commands::Command;
-use commands::LIMITED;
-use commands::MOVE;
+ghost use Rattle.by_station.specs.Reached.{Reached};
+ghost use Rattle.listing.specs.Stations.{StationKept};
+use by_station::NextMove;
+use by_station::PAGES;
+use by_station::next_move;
+use by_station::record_for;
 use commands::Move;
 use commands::STATION;
-use commands::command_at;
 use commands::length_of;
 use image::Checked;
 use image::Place;
 use image::Refusal;
 use image::directory_of;
 use image::page_of;
-use move_record::MoveRecord;
 use move_record::kept::keep_record;
 use whole::check;
 
@@ -42,9 +42,6 @@ pub fn count_in(answer: ReadAnswer) -> usize
     }
 }
 
-// How many pages a directory can name, whose entries are bytes.
-const PAGES: usize = 256;
-
 // How far the records are kept: the offset behind the moves that were passed, and the number of records.
 struct Passed {
     at: usize,
@@ -57,13 +54,7 @@ fn keep_move(kept: &mut [u16], k: usize, u: u16, m: Move) -> usize
     ensures put { λ _. ⌜ now (kept .exit) ≡ withRecord (now (kept .entry)) k (recordFor u m) ⌝ }
     ensures next { λ r. ⌜ r ≡ k + 1 ⌝ }
 {
-    let r = MoveRecord {
-        from: u,
-        target: m.target,
-        time: m.time,
-        limit: m.limit,
-    };
-    keep_record(kept, k, r);
+    keep_record(kept, k, record_for(u, m));
     k + 1
 }
 
@@ -82,24 +73,18 @@ fn keep_station(image: &[u8], p: u8, u: u16, from: usize, first: usize, kept: &m
     let mut at = from + length_of(STATION);
     let mut k = first;
     loop {
-        match command_at(page, at) {
-            Command::MoveTo(m) => {
+        match next_move(page, at) {
+            NextMove::Found(m, behind) => {
                 k = keep_move(kept, k, u, m);
-                at += length_of(MOVE);
+                at = behind;
             }
-            Command::Limited(m) => {
-                k = keep_move(kept, k, u, m);
-                at += length_of(LIMITED);
-            }
-            Command::Station(v) => return Passed { at, count: k },
-            Command::End => return Passed { at, count: k },
-            Command::Fault(number) => return Passed { at, count: k },
+            NextMove::Over => return Passed { at, count: k },
         }
     }
 }
 
-// Keeps the records of a wholly good image by rising station, and gives their number. A page's stations rise, so that
-// each page is read once from front to end: for each one it is known how far it was read.
+// Keeps the records of a wholly good image by rising station, and gives their number. For each page it is known how far
+// it was read.
 fn keep_stations(image: &[u8], kept: &mut [u16]) -> usize
     requires whole { ⌜ wholeCheck (now image) ≡ accepted ⌝ }
     requires memory { ⌜ length (now kept) ≡ 48960 ⌝ }

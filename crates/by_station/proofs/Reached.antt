@@ -1,42 +1,44 @@
 -- How far a page is read: at its front, past a station that is on another page, behind the station that is due, and
 -- behind each of its moves. What is left is spelled at the offset, so that the command there is known from it.
-use Rattle.common.proofs.Ground.{_≡_, _≢_, refl, ap, sym, _∙_, Bool, true, false, List, [], _∷_, ℕ, _+_, _≤_, _<_}
+use Rattle.common.proofs.Ground.{_≡_, _≢_, refl, ap, sym, _∙_, List, [], _∷_, ℕ, _+_, _≤_, _<_}
 use Rattle.common.proofs.Ground.{arith, length, getD, drop, length-drop, drop-drop, drop-cons, add-one, eq-eqb, ne-eqb}
 use Rattle.common.proofs.Cases.{never}
 use Rattle.commands.specs.declared.Move.{Move}
 use Rattle.commands.specs.declared.Command.{Command}
 use Rattle.commands.specs.declared.Command.the-variants.{End, Station, MoveTo, Limited, Fault}
 use Rattle.commands.specs.Commands.{lengthOf, commandAt}
+use Rattle.commands.proofs.Lengths.{Stands, stands}
 use Rattle.image.specs.Bytes.{Bytes}
 use Rattle.image.specs.Image.{directoryOf, pageBytes}
 use Rattle.image.proofs.Parts.{bytes-page}
 use Rattle.page.specs.Reading.{good, Leaving, readingOf, movesIn}
-use Rattle.page.specs.Good.{stationsFrom, names, codeOf, spellMoves, spellStations, spelled}
+use Rattle.page.specs.Good.{stationsFrom, names, codeOf, spellMove, spellMoves, spellStations, spelled}
 use Rattle.page.proofs.Reading.Steps.{IsMove, unlimited, limited}
 use Rattle.page.proofs.Good.Promise.{promise}
 use Rattle.page.proofs.Good.Spelling.{read-end, read-station, read-move, behind-move}
 use Rattle.whole.proofs.Accepted.{GoodPage}
 use Rattle.roundtrip.specs.Records.{contentIn}
-use Rattle.listing.specs.Stations.{Reached}
+use Rattle.by_station.specs.declared.NextMove.the-variants.{Found, Over}
+use Rattle.by_station.specs.Next.{moveIn, nextMove}
+use Rattle.by_station.specs.Reached.{Reached}
 
--- Whether a command is a move.
-abbrev pub isMove : Command → Bool
-isMove End = false
-isMove (Station v) = false
-isMove (MoveTo m) = true
-isMove (Limited m) = true
-isMove (Fault number) = false
+-- A command that is a move is the next one.
+next-is : {m : Move} {code : ℕ} {x : Command} (at : ℕ) → IsMove m code x → moveIn at x ≡ Found m (at + lengthOf code)
+next-is at unlimited = refl
+next-is at limited = refl
 
-move-is : {m : Move} {code : ℕ} {x : Command} → IsMove m code x → isMove x ≡ true
-move-is unlimited = refl
-move-is limited = refl
-
-same-move : {m n : Move} {code other : ℕ} {x y : Command} → IsMove m code x → IsMove n other y → x ≡ y
-    → (m ≡ n) × (code ≡ other)
-same-move unlimited unlimited e = (cc, refl)
-same-move unlimited limited e = never (cc)
-same-move limited unlimited e = never (cc)
-same-move limited limited e = (cc, refl)
+-- What stands behind a move is further on, and within the page.
+pub found-behind : (page : List ℕ) (at : ℕ) {m : Move} {behind : ℕ} → nextMove page at ≡ Found m behind
+    → (at < behind) × (behind ≤ length page)
+found-behind page at {m} {behind} e = by-command (commandAt page at) (stands page at refl) e
+  where
+    by-command : (x : Command) → Stands page at x → moveIn at x ≡ Found m behind
+        → (at < behind) × (behind ≤ length page)
+    by-command (MoveTo n) s q = let there : at + lengthOf 2 ≡ behind = cc in (omega arith, omega (arith, s .ends))
+    by-command (Limited n) s q = let there : at + lengthOf 3 ≡ behind = cc in (omega arith, omega (arith, s .ends))
+    by-command (Station v) s q = never (cc)
+    by-command End s q = never (cc)
+    by-command (Fault number) s q = never (cc)
 
 -- The stations that are left on a page, from station u on: u is one of them, or it is not.
 module _ (directory : List ℕ) (p u : ℕ) (h : u < length directory) where
@@ -120,40 +122,44 @@ module _ (image : List ℕ) (p : ℕ) where
     reached-inside [] r = left-inside (r .left) (r .zeros) (r .spells)
     reached-inside (m ∷ rest) r = omega (arith, length-drop at page, ap length (r .spells))
 
-    -- behind the last move no move stands
-    no-move : (left : List Leaving) (zeros : ℕ) → drop at page ≡ spelled left zeros → isMove (commandAt page at) ≡ false
+    -- behind the last move no move stands, and before it the first that is left
+    none-stands : (left : List Leaving) (zeros : ℕ) → drop at page ≡ spelled left zeros → nextMove page at ≡ Over
     unfolding spellStations
-    no-move [] zeros e = ap isMove (read-end page at _ e)
-    no-move (x ∷ xs) zeros e = ap isMove (read-station page at (x .station) _ e)
+    none-stands [] zeros e = ap (moveIn at) (read-end page at _ e)
+    none-stands (x ∷ xs) zeros e = ap (moveIn at) (read-station page at (x .station) _ e)
+
+    first-stands : (m : Move) (rest : List ℕ) → drop at page ≡ spellMove m rest
+        → nextMove page at ≡ Found m (at + lengthOf (codeOf m))
+    first-stands m rest e =
+        let (x, reads, stands) = read-move page at m rest e in
+        ap (moveIn at) stands ∙ next-is at reads
 
     -- A move stands there: it is the first that is left, and behind it the others are.
-    pub reached-move : {after code : ℕ} {m : Move} {x : Command} (moves : List Move) → Reached image p after at moves
-        → IsMove m code x → commandAt page at ≡ x
-        → (rest : List Move) × (moves ≡ m ∷ rest) × Reached image p after (at + lengthOf code) rest
+    pub reached-move : {after behind : ℕ} {m : Move} (moves : List Move) → Reached image p after at moves
+        → nextMove page at ≡ Found m behind
+        → (rest : List Move) × (moves ≡ m ∷ rest) × Reached image p after behind rest
     unfolding spellMoves
-    reached-move [] r is e =
-        never (let none = no-move (r .left) (r .zeros) (r .spells) in let some = move-is is in cc)
-    reached-move {after} {code} {m} (n ∷ rest) r is e =
-        let (y, reads, stands) = read-move page at n _ (r .spells) in
-        let same = same-move reads is (sym stands ∙ e) in
+    reached-move [] r e = never (let none = none-stands (r .left) (r .zeros) (r .spells) in cc)
+    reached-move {after} {behind} {m} (n ∷ rest) r e =
+        let stands = first-stands n _ (r .spells) in
+        let same : n ≡ m = cc in
+        let there : at + lengthOf (codeOf n) ≡ behind = cc in
         let width = lengthOf (codeOf n) in
-        let behind = sym (drop-drop width at page) ∙ ap (drop width) (r .spells) ∙ behind-move n _ in (
+        let left = sym (drop-drop width at page) ∙ ap (drop width) (r .spells) ∙ behind-move n _ in (
           rest,
-          ap (λ k. k ∷ rest) (same .0),
+          ap (λ k. k ∷ rest) same,
           record {
             left = r .left;
             named = r .named;
             same = r .same;
             zeros = r .zeros;
-            spells = rw (same .1) at behind;
+            spells = rw there at left;
           },
         )
 
     -- No move stands there: none is left.
-    pub reached-end : {after : ℕ} {x : Command} (moves : List Move) → Reached image p after at moves
-        → commandAt page at ≡ x → isMove x ≡ false → moves ≡ []
+    pub reached-over : {after : ℕ} (moves : List Move) → Reached image p after at moves → nextMove page at ≡ Over
+        → moves ≡ []
     unfolding spellMoves
-    reached-end [] r e none = refl
-    reached-end (m ∷ rest) r e none =
-        let (y, reads, stands) = read-move page at m _ (r .spells) in
-        never (let some = move-is reads in cc)
+    reached-over [] r e = refl
+    reached-over (m ∷ rest) r e = never (let stands = first-stands m _ (r .spells) in cc)
