@@ -1,8 +1,11 @@
-// What the test programs search_test and panel_test read alike, on standard input: a row of maps, all numbers
-// little-endian. A map is the label's length (u8), the number of its calls (u16), the image's length (u32), the label,
-// the image, and the calls. A call is each program's own; at its end are its changes, each an offset (u32) and the byte
-// that the image has there from this call on. Labels and changes are printed as they are read.
+// What the test programs search_test, panel_test and records_test read alike, on standard input: a row of
+// maps, all numbers little-endian. A map is the label's length (u8), the number of its calls (u16), the image's length
+// (u32), the label, the image, and the calls. A call is each program's own; at its end are its changes, each an offset
+// (u32) and the byte that the image has there from this call on. Labels and changes are printed as they are read. And
+// what such programs print alike: a refusal with its place.
 
+use image::Place;
+use image::Refusal;
 use image::bytes::word_at;
 use libc::STDIN_FILENO;
 use libc::STDOUT_FILENO;
@@ -23,8 +26,24 @@ pub fn print_number(before: &[u8], number: u64) {
     io::print_decimal(STDOUT_FILENO, number);
 }
 
+fn print_on_page(page: u8, offset: usize) {
+    print_number(b", page ", page as u64);
+    print_number(b", offset ", offset as u64);
+}
+
+// Prints a refusal's number and the place that it names.
+pub fn print_refusal(refusal: Refusal) {
+    print_number(b"refused ", refusal.number as u64);
+    let place = refusal.place;
+    match place {
+        Place::Nowhere => {}
+        Place::AtStation(station) => print_number(b", station ", station as u64),
+        Place::OnPage { page, offset } => print_on_page(page, offset),
+    }
+}
+
 // The u32 at an offset.
-fn long_at(s: &[u8], at: u8) -> u32 {
+pub fn long_at(s: &[u8], at: u8) -> u32 {
     word_at(s, at as usize) as u32 + 65536 * (word_at(s, at as usize + 2) as u32)
 }
 

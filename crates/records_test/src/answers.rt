@@ -1,26 +1,10 @@
 // The text of an answer: `listed 8` or `written`, or the refusal's number with the place that it names.
 
 use cases_io::print_number;
-use image::Place;
-use image::Refusal;
+use cases_io::print_refusal;
 use libc::STDOUT_FILENO;
 use listing::ReadAnswer;
 use writing::WriteAnswer;
-
-fn print_on_page(page: u8, offset: usize) {
-    print_number(b", page ", page as u64);
-    print_number(b", offset ", offset as u64);
-}
-
-fn print_refusal(refusal: Refusal) {
-    print_number(b"refused ", refusal.number as u64);
-    let place = refusal.place;
-    match place {
-        Place::Nowhere => {}
-        Place::AtStation(station) => print_number(b", station ", station as u64),
-        Place::OnPage { page, offset } => print_on_page(page, offset),
-    }
-}
 
 // Prints what the reader answered.
 pub fn print_listed(answer: ReadAnswer) {
