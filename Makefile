@@ -20,12 +20,13 @@ cases: layers
 	@python3 tests/make_route_cases.py --check
 	@python3 tests/make_panel_cases.py --check
 	@python3 tests/make_records_cases.py --check
+	@python3 tests/make_order_cases.py --check
 	@python3 tests/make_coils_examples.py --check
 
 # What would look at page bytes, by the names that the sources use: a slice under another name escapes this.
 LOOKS := \b(page|image)\[|(byte_at|word_at|part_of|command_at)\((page|image)\b
 SEE_NO_BYTES := layout queue cells relax rows page whole work reference engine tables reply \
-    search panel line coil move_record listing writing records telling yard
+    search panel line coil move_record listing writing records order telling yard
 # Not among them: by_station, which reads the moves of a good page command by command, and imaging, which writes pages.
 
 # Looks in the crates that are to see no page bytes for an index of, or a byte read from, a slice called page or image.
@@ -52,11 +53,12 @@ libyard:
 
 C99 := $(CC) -std=c99 -O2 -Wall -Wextra -Werror -pedantic -Iinclude
 
-# Builds the C programs way, panel and redraw and runs them: each status 0 to 3, closed ways, maps drawn anew (needs C).
+# Builds the C programs way, panel, redraw and order and runs them: each status, closed ways, maps redrawn (needs C).
 c-example: libyard
 	$(C99) -o target/way examples/way.c target/staticlib/libyard.a
 	$(C99) -o target/panel examples/panel.c target/staticlib/libyard.a
 	$(C99) -o target/redraw examples/redraw.c target/staticlib/libyard.a
+	$(C99) -o target/order examples/order.c target/staticlib/libyard.a
 	target/way crates/coils/data/yard.map 0 6
 	target/way examples/plate/yard.map 396 0; test $$? = 1
 	target/way crates/coils/data/yard.map 0 -1; test $$? = 2
@@ -85,6 +87,30 @@ c-example: libyard
 	target/redraw examples/plate/yard.map target/redrawn.map; test $$? = 1
 	target/redraw crates/coils/data/yard.map target/redrawn.map 6 6 5; test $$? = 1
 	target/redraw crates/coils/data/yard.map target/redrawn.map 6 0; test $$? = 2
+	target/order crates/coils/data/yard.map crates/coils/data/yard.map >target/ordered
+	grep ' are equal: ' target/ordered
+	{ head -c 4 crates/coils/data/yard.map; printf '\1\1\1\1\0\0\0'; tail -c 256 crates/coils/data/yard.map; \
+	    tail -c 512 crates/coils/data/yard.map | head -c 256; } >target/exchanged.map
+	! cmp -s target/exchanged.map crates/coils/data/yard.map
+	target/order target/exchanged.map crates/coils/data/yard.map >target/ordered
+	grep ' are equal: ' target/ordered
+	target/redraw crates/coils/data/yard.map target/redrawn.map 6 0 5
+	target/order crates/coils/data/yard.map target/redrawn.map >target/ordered
+	grep '^crates/coils/data/yard.map comes before target/redrawn.map$$' target/ordered
+	target/order target/redrawn.map crates/coils/data/yard.map | cmp - target/ordered
+	target/redraw crates/coils/data/yard.map target/redrawn.map 5 6 1 8120
+	target/order target/redrawn.map target/exchanged.map >target/ordered
+	grep '^target/exchanged.map comes before target/redrawn.map$$' target/ordered
+	target/redraw crates/coils/data/yard.map target/redrawn.map 0 2 65535
+	target/order crates/coils/data/yard.map target/redrawn.map >target/ordered
+	grep '^target/redrawn.map comes before crates/coils/data/yard.map$$' target/ordered
+	target/order crates/coils/data/yard.map examples/plate/yard.map >target/ordered; test $$? = 1
+	grep '^examples/plate/yard.map refused 12: .*, page 23, offset 27$$' target/ordered
+	target/order examples/plate/yard.map Makefile | cmp - target/ordered
+	target/order Makefile examples/plate/yard.map >target/ordered; test $$? = 1
+	grep '^Makefile refused 2: ' target/ordered
+	target/order crates/coils/data/yard.map; test $$? = 2
+	target/order crates/coils/data/yard.map target/no.map; test $$? = 2
 
 # Measures the stack of each call of the C interface, on full and on damaged maps (needs a C compiler and ucontext).
 stack: libyard

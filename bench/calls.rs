@@ -1,18 +1,20 @@
-//! The calls beside the searches, on two full maps: the whole check against the tuned baseline's parser, which makes the
-//! same checks and keeps the moves, and, where it is built in, against the base's whole check; the panel against the DF
-//! search on tables made for it, as the panel makes its own; and reading records and writing an image against the whole
-//! check and against what one writes for it in Rust without proofs (`writer.rs`).
+//! The calls beside the searches, on two full maps: the whole check against the tuned baseline's parser, which makes
+//! the same checks and keeps the moves, and, where it is built in, against the base's whole check; the panel against
+//! the DF search on tables made for it, as the panel makes its own; reading records and writing an image against the
+//! whole check and against what one writes for it in Rust without proofs (`writer.rs`); and ordering two images, those
+//! of equal maps and of maps that differ in the last record, against the whole check of both and Rust (`order.rs`).
 
 use crate::baseline::{self, Joined};
 use crate::contestants::STRIP;
 use crate::timing::Spread;
-use crate::{maps, rounds, writer};
+use crate::{maps, order, rounds, writer};
 use outside::maps::drawings::records_of;
 use outside::maps::{Map, MOST_STATIONS};
 use outside::random::Random;
-use outside::reference::records::{Drawing, Record};
+use outside::reference::records::{image_of, Drawing, Record};
 use outside::reference::{Query, Search, Tables};
 use outside::yard;
+use std::cmp::Ordering;
 
 /// A map as the calls are given it.
 struct Given {
@@ -20,12 +22,26 @@ struct Given {
     records: Vec<Record>,
     stations: u16,
     pages: u16,
+    /// The same map with its pages numbered the other way round.
+    redrawn: Vec<u8>,
+    /// The map with more time for its last record.
+    draft: Vec<u8>,
 }
 
 impl Given {
     fn new(map: &Map) -> Self {
         let (stations, pages) = (map.stations() as u16, map.pages as u16);
-        Given { image: map.image(), records: records_of(map), stations, pages }
+        let (image, records) = (map.image(), records_of(map));
+        let draw = |records: &[Record], directory: &[u8]| {
+            image_of(Drawing { records, stations, pages, directory }, image.len())
+                .expect("as many bytes on each page")
+        };
+        let turned: Vec<u8> = map.directory.iter().map(|page| (pages - 1) as u8 - page).collect();
+        let redrawn = draw(&records, &turned);
+        let mut slower = records.clone();
+        slower.last_mut().expect("a move at least").time += 1;
+        let draft = draw(&slower, &map.directory);
+        Given { image, records, stations, pages, redrawn, draft }
     }
 
     fn drawing(&self) -> Drawing<'_> {
@@ -41,7 +57,7 @@ struct Lent {
     image: Vec<u8>,
 }
 
-/// Tells whether a map is good, for a call from a source if it is one.
+/// Tells whether a map is good, for a call from a source if it is one, or whether the order is what it has to be.
 type Call = fn(&Given, &mut Lent, u16) -> bool;
 
 const WHOLE_CHECK: (&str, Call) = ("whole check", |map, _, _| yard::check(&map.image, &mut [0; 4]) == 0);
@@ -65,6 +81,28 @@ const WRITERS: &[(&str, Call)] = &[
     ("writing in Rust", |map, lent, _| writer::write(map.drawing()).map(|image| lent.image = image).is_some()),
 ];
 
+const ORDERS_OF_EQUALS: &[(&str, Call)] = &[
+    ("ordering equal maps", |map, _, _| is_named(&map.image, &map.redrawn, 0)),
+    ("whole check of both", |map, _, _| are_good(&map.image, &map.redrawn)),
+    ("ordering in Rust", |map, _, _| order::order(&map.image, &map.redrawn) == Some(Ordering::Equal)),
+];
+
+const ORDERS_BY_LAST: &[(&str, Call)] = &[
+    ("ordering by the last record", |map, _, _| is_named(&map.image, &map.draft, 1)),
+    ("whole check of both", |map, _, _| are_good(&map.image, &map.draft)),
+    ("ordering in Rust", |map, _, _| order::order(&map.image, &map.draft) == Some(Ordering::Less)),
+];
+
+/// Whether the order says this of the lesser.
+fn is_named(first: &[u8], second: &[u8], lesser: u32) -> bool {
+    let mut answer = [7; 4];
+    yard::order(first, second, &mut answer) == 0 && answer == [lesser, 0, 0, 0]
+}
+
+fn are_good(first: &[u8], second: &[u8]) -> bool {
+    yard::check(first, &mut [0; 4]) == 0 && yard::check(second, &mut [0; 4]) == 0
+}
+
 const PANELS: &[(&str, Call)] = &[
     ("panel", |map, _, source| yard::panel(&map.image, Query { source, strip: STRIP }, 0) >= 0.0),
     ("DF search", |map, _, source| {
@@ -77,7 +115,7 @@ const PANELS: &[(&str, Call)] = &[
 ];
 
 pub fn print_tables(count: usize) {
-    for calls in [CHECKS, PANELS, READERS, WRITERS] {
+    for calls in [CHECKS, PANELS, READERS, WRITERS, ORDERS_OF_EQUALS, ORDERS_BY_LAST] {
         print_table(count, calls);
     }
 }

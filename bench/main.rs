@@ -1,7 +1,8 @@
-//! The benchmark: the searches, the whole check, the panel, reading records and writing an image through the C
-//! interface, against Dijkstra's search as one writes it in Rust without proofs (`baseline.rs`), reading and writing
-//! alike (`writer.rs`) and, where they are built in, an earlier build of the library (`base.rs`) and other libraries
-//! (`peers.rs`). Takes the number of rounds as its argument and prints Markdown tables.
+//! The benchmark: the searches, the whole check, the panel, reading records, writing an image and ordering two through
+//! the C interface, against Dijkstra's search as one writes it in Rust without proofs (`baseline.rs`), reading and
+//! writing alike (`writer.rs`), ordering alike (`order.rs`) and, where they are built in, an earlier build of the
+//! library (`base.rs`) and other libraries (`peers.rs`). Takes the number of rounds as its argument and prints Markdown
+//! tables.
 
 #[cfg(base)]
 mod base;
@@ -9,6 +10,7 @@ mod baseline;
 mod calls;
 mod contestants;
 mod maps;
+mod order;
 #[cfg(peers)]
 mod peers;
 mod rounds;

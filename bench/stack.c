@@ -28,7 +28,9 @@ static uint8_t marks[YARD_MAX_STATIONS], list[YARD_MAX_STATIONS];
 static size_t preds_len, way_len;
 static struct yard_record records[YARD_MAX_RECORDS], drawn[YARD_MAX_RECORDS];
 static size_t records_len, drawn_len;
-static uint8_t buffer[YARD_MAX_IMAGE_BYTES];
+static uint8_t buffer[YARD_MAX_IMAGE_BYTES], full[YARD_MAX_IMAGE_BYTES];
+static const uint8_t *first, *second;
+static size_t first_len, second_len;
 
 static void nothing(void)
 {
@@ -75,6 +77,11 @@ static void write_image(void)
                           yard_stations(image, image_len), buffer, image_len, answer, 4);
 }
 
+static void order(void)
+{
+    returned = yard_order(first, first_len, second, second_len, answer, 4);
+}
+
 /* What was seen of a call: the most bytes, and how often it was accepted and refused. */
 struct seen {
     const char *name;
@@ -91,6 +98,7 @@ static struct seen of_route = {"yard_route", route, 0, 0, 0};
 static struct seen of_panel = {"yard_panel", panel, 0, 0, 0};
 static struct seen of_records = {"yard_records", read_records, 0, 0, 0};
 static struct seen of_write = {"yard_write", write_image, 0, 0, 0};
+static struct seen of_order = {"yard_order", order, 0, 0, 0};
 
 /* The bytes from the lowest one that is no longer paint to the stack's end, after the call on a stack of that paint. */
 static size_t used_on(uint8_t paint, void (*call)(void))
@@ -181,9 +189,10 @@ static void put_full_map(uint32_t kind)
     }
 }
 
-/* The records of the full map in hand, from which it can be written again. */
+/* A copy of the full map in hand, and its records, from which it can be written again. */
 static void draw_full_map(void)
 {
+    memcpy(full, image, sizeof image);
     if (yard_records(image, image_len, drawn, YARD_MAX_RECORDS, answer, 4) != YARD_ACCEPTED)
         abort();
     drawn_len = answer[0];
@@ -217,6 +226,27 @@ static void measure_records(void)
     measure(&of_write);
 }
 
+static void measure_order(const uint8_t *one, size_t one_len, const uint8_t *other, size_t other_len)
+{
+    first = one;
+    first_len = one_len;
+    second = other;
+    second_len = other_len;
+    measure(&of_order);
+}
+
+/*
+ * The map in hand and the full map that it was before it was damaged, both ways round; the map in hand and itself; and
+ * the full map and the last image that was written of its records, which has limits if there was room for them.
+ */
+static void measure_orders(void)
+{
+    measure_order(image, image_len, full, sizeof full);
+    measure_order(full, sizeof full, image, image_len);
+    measure_order(image, image_len, image, image_len);
+    measure_order(full, sizeof full, buffer, sizeof buffer);
+}
+
 /*
  * All calls on the map in hand; the route on the predecessors that the DF search left, or on damaged ones; the panel
  * from and to stations of its own, which the map need not have.
@@ -241,6 +271,7 @@ static void measure_all(void)
     station = any_station();
     measure(&of_panel);
     measure_records();
+    measure_orders();
 }
 
 /* Damages one byte of the map in hand at a time, takes it back, and now and then cuts the map short. */
@@ -288,5 +319,6 @@ int main(void)
     kept &= told(&of_panel);
     kept &= told(&of_records);
     kept &= told(&of_write);
+    kept &= told(&of_order);
     return kept ? 0 : 1;
 }

@@ -16,8 +16,11 @@
 
 enum status { STATUS_DONE = 0, STATUS_REFUSED = 1, STATUS_USAGE = 2, STATUS_NO_ROUTE = 3 };
 
-/* A number of decimal digits and nothing else (strtoul alone would take a sign and spaces too). */
-static int read_number(const char *text, uint16_t *number)
+/*
+ * A number of decimal digits and nothing else (strtoul alone would take a sign and spaces too). Inline, as it may go
+ * unused: order has no numbers.
+ */
+static inline int read_number(const char *text, uint16_t *number)
 {
     char *end;
     unsigned long value;

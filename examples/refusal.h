@@ -1,5 +1,5 @@
 /*
- * What the examples way and redraw share: a refusal printed in words, with the place that the answer gives for it.
+ * What the examples way, redraw and order share: a refusal printed in words, with the place that the answer gives.
  */
 #ifndef REFUSAL_H
 #define REFUSAL_H
@@ -23,9 +23,10 @@ static void print_place(uint32_t refusal, const uint32_t *answer)
         printf(", page %u, offset %u", place, offset);
 }
 
-static enum status refused(const char *call, uint32_t refusal, const uint32_t *answer)
+/* Of the call, or of the file, by that name. */
+static enum status refused(const char *name, uint32_t refusal, const uint32_t *answer)
 {
-    printf("%s refused %u: %s", call, (unsigned)refusal, yard_refusal_meaning(refusal));
+    printf("%s refused %u: %s", name, (unsigned)refusal, yard_refusal_meaning(refusal));
     print_place(refusal, answer);
     printf("\n");
     return STATUS_REFUSED;

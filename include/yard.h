@@ -14,10 +14,12 @@
  * A page names just its own stations, rising; the targets of a station rise and differ from it. A time of 0 is a
  * handover: a stop, such as a turntable, that has two station numbers. README.md says it at more length, and lists the
  * definitions that say it exactly. A map can also be had as records, a struct yard_record for each move: yard_records
- * gives those of an image, yard_write the image of records.
+ * gives those of an image, yard_write the image of records; and by its records a map is put in order with others
+ * (yard_order).
  *
  * A slice is passed as a pointer and a length in entries; a length of 0 needs a pointer that is not null. The slices
- * of one call must not overlap. No call allocates, and none keeps a pointer.
+ * of one call must not overlap, but for the two images of yard_order, which are only read: they may be the same memory
+ * or overlap. No call allocates, and none keeps a pointer.
  *
  * Units: times are in tenths of a second, the length of a strip in decimetres, offsets in bytes, lengths of slices in
  * entries; moves are the number of moves on a way.
@@ -28,12 +30,14 @@
  * Stack: a call's stack use stays below 256 KiB. The most that was seen, in bytes, arguments included (`make stack` on
  * x86-64: full maps and damaged ones):
  *     yard_check 77,584    yard_plain 112,752    yard_df 112,752    yard_route 72    yard_panel 133,184
- *     yard_records 177,616    yard_write 104,184
+ *     yard_records 177,616    yard_write 104,184    yard_order 81,904
  *
  * Each call but yard_panel returns 0 if accepted, else the refusal's number (1 to 20, but never 13); yard_panel returns
  * a double and has no answer. Where answer has four entries or more, the first four get
- *     answer[0]  count:   entries of the page list, stations on the route, or records of the map
- *     answer[1]  reached: stations that have a time, the source among them
+ *     answer[0]  count:   entries of the page list, stations on the route, or records of the map;
+ *                of yard_order the map that comes first: 1 the first image's, 2 the second's, 0 if they are equal
+ *     answer[1]  reached: stations that have a time, the source among them;
+ *                of a refusal by yard_order the image that is refused: 1 the first, 2 the second
  *     answer[2]  page of a page refusal (8 to 12, 14 and 18), and of 20; for 5 the station; for 19 the record's index
  *     answer[3]  offset of a page refusal in its page, in bytes: that of the command at fault
  * and numbers that do not apply are 0. A shorter answer is left as it is, and so are later entries.
@@ -50,7 +54,7 @@ extern "C" {
 
 /* The version of this interface: MAJOR rises when programs have to change, MINOR when something is added. */
 #define YARD_VERSION_MAJOR 3
-#define YARD_VERSION_MINOR 2
+#define YARD_VERSION_MINOR 3
 
 /* The limits of a map. Read a file into YARD_MAX_IMAGE_BYTES + 1 bytes: one that is too long is then refused by 4. */
 #define YARD_MAX_STATIONS 2048
@@ -79,6 +83,13 @@ extern "C" {
 /* A move as a record: from station to station in tenths of a second, with a limit in decimetres or 0 for none. */
 struct yard_record {
     uint16_t from, target, time, limit;
+};
+
+/* One of the two images of yard_order, or neither: what answer[0] and answer[1] say of them. */
+enum yard_image {
+    YARD_NEITHER = 0,
+    YARD_FIRST = 1,
+    YARD_SECOND = 2
 };
 
 /*
@@ -246,6 +257,22 @@ uint32_t yard_records(const uint8_t *image, size_t image_len, struct yard_record
  */
 uint32_t yard_write(const struct yard_record *records, size_t records_len, uint16_t stations, uint16_t pages,
                     const uint8_t *directory, size_t directory_len, uint8_t *image, size_t image_len,
+                    uint32_t *answer, size_t answer_len);
+
+/*
+ * The order of two maps, in which the drafts of one yard come to lie side by side: by N; for equal N by the records as
+ * a list, as yard_records gives it, record by record by from, target, time and limit, and a list that is a front part
+ * of another comes first. The number of pages and the directory have no part in it. All maps lie in one line by this
+ * order, so that they can be sorted by it. The images may be the same memory or overlap.
+ * First comes the whole check of the first image, then that of the second. Refused: as yard_check refuses that image,
+ * and answer[1] says which it is, YARD_FIRST or YARD_SECOND.
+ * Accepted: answer[0] is YARD_FIRST if the first map comes first, YARD_SECOND if the second does, and YARD_NEITHER if
+ * they are equal, which they are exactly if N and the moves are the same. Both searches then leave the same times,
+ * moves and predecessors for the one as for the other, for every source and length; the page lists may differ.
+ * The call that hands back the lesser image itself, order::lesser, stays in Rattle: a C program has both images in hand
+ * and takes the second where answer[0] is YARD_SECOND, else the first.
+ */
+uint32_t yard_order(const uint8_t *first, size_t first_len, const uint8_t *second, size_t second_len,
                     uint32_t *answer, size_t answer_len);
 
 #ifdef __cplusplus

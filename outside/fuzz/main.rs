@@ -5,6 +5,7 @@
 mod bounds;
 mod cycles;
 mod lent;
+mod orders;
 mod panels;
 mod paper;
 mod records;
@@ -78,6 +79,7 @@ fn one(seed: u64, number: u64, tally: &mut Tally) -> Result<(), String> {
     records::compare_image(&case.image, &mut random, tally).map_err(of_case)?;
     let drawing = drawings::draw(&mut random);
     tally.kind(drawing.kind);
-    records::compare_drawing(&drawing, &mut random, tally)
-        .map_err(|difference| format!("{}: {difference}", drawing.kind))
+    let written = records::compare_drawing(&drawing, &mut random, tally)
+        .map_err(|difference| format!("{}: {difference}", drawing.kind))?;
+    orders::compare(&case.image, written, &mut random, tally).map_err(of_case)
 }

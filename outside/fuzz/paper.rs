@@ -1,8 +1,9 @@
 //! The examples that document 01 prints with their answers: the table of refusals, course cases C1 to C10 and the
-//! bounds named beside them; and what document 02 says of limits, the panel, the number of moves, moves of time 0 and
-//! records, on these maps and on maps made for it. They are held against the reference as well as the engine, so that
-//! both hang on the paper.
+//! bounds named beside them; and what document 02 says of limits, the panel, the number of moves, moves of time 0,
+//! records and the order of maps, on these maps and on maps made for it. They are held against the reference as well as
+//! the engine, so that both hang on the paper.
 
+mod orders;
 mod writer;
 
 use outside::maps::Map;
@@ -10,7 +11,7 @@ use outside::reference::lists::one_page_reads;
 use outside::reference::panel::Panel;
 use outside::reference::records::{self, Drawing, Record};
 use outside::reference::route::Routes;
-use outside::reference::{image, letter, Answer, Query, Search, Tables, SOURCE};
+use outside::reference::{image, letter, order, Answer, Query, Search, Tables, SOURCE};
 use outside::yard;
 
 /// Both implementations of each call, under one signature.
@@ -20,6 +21,7 @@ type Way = fn(&[u16], u16, &mut [u16]) -> Answer;
 type Show = fn(&[u8], Query, u16) -> f64;
 type Read = fn(&[u8], &mut [Record]) -> Answer;
 type Write = fn(Drawing, &mut [u8]) -> Answer;
+type Order = fn(&[u8], &[u8]) -> Answer;
 
 struct Calls {
     check: Check,
@@ -28,6 +30,7 @@ struct Calls {
     panel: Show,
     records: Read,
     write: Write,
+    order: Order,
 }
 
 const REFERENCE: Calls = Calls {
@@ -37,6 +40,7 @@ const REFERENCE: Calls = Calls {
     panel: |image, query, station| Panel::new(image, query).outside(station),
     records: |image, list| records::read(&records::of_image(image), list),
     write: records::write,
+    order: |first, second| order::name(&order::rank(first), &order::rank(second)).answer(),
 };
 
 const ENGINE: Calls = Calls {
@@ -46,6 +50,7 @@ const ENGINE: Calls = Calls {
     panel: yard::panel,
     records: |image, list| answered(|answer| yard::records(image, list, answer)),
     write: |drawing, buffer| answered(|answer| yard::write(drawing, buffer, answer)),
+    order: |first, second| answered(|answer| yard::order(first, second, answer)),
 };
 
 fn answered(call: impl FnOnce(&mut [u32]) -> u32) -> Answer {
@@ -62,7 +67,8 @@ pub fn compare() -> Result<usize, String> {
         let document_01 = [headings(&calls), pages(&calls), course(&calls), routes(&calls), bounds(&calls)];
         let document_02 = [limits(&calls), panel(&calls), fewer_moves(&calls), tables(&calls)];
         let without_time = [turntables(&calls), cycles(&calls), fewer_handovers(&calls)];
-        let parts = document_01.into_iter().chain(document_02).chain(without_time).chain(writer::examples(&calls));
+        let parts = document_01.into_iter().chain(document_02).chain(without_time);
+        let parts = parts.chain(writer::examples(&calls)).chain(orders::examples(&calls));
         let examples: Vec<_> = parts.flatten().collect();
         if let Some((example, _)) = examples.iter().find(|(_, holds)| !holds) {
             return Err(format!("{name}: {example}"));

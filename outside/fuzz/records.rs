@@ -88,8 +88,12 @@ fn compare_write(
     Ok((wanted.refusal == 0).then(|| buffer.entries().to_vec()))
 }
 
-/// A drawing of any kind: what is written of it, and what is read of that.
-pub fn compare_drawing(case: &DrawingCase, random: &mut Random, tally: &mut Tally) -> Result<(), String> {
+/// A drawing of any kind: what is written of it, which is handed back, and what is read of that.
+pub fn compare_drawing(
+    case: &DrawingCase,
+    random: &mut Random,
+    tally: &mut Tally,
+) -> Result<Option<Vec<u8>>, String> {
     let written = compare_write(case.lend(), case.buffer, random, tally)?;
     if let Some(known) = &case.known {
         if written.as_ref() != Some(known) {
@@ -99,7 +103,7 @@ pub fn compare_drawing(case: &DrawingCase, random: &mut Random, tally: &mut Tall
             return Err("reference: the records are not the moves that were drawn".into());
         }
     }
-    let Some(written) = written else { return Ok(()) };
+    let Some(written) = written else { return Ok(None) };
     let mut answer = [7; 4];
     let refusal = yard::check(&written, &mut answer);
     if (refusal, answer) != (0, [0; 4]) {
@@ -112,5 +116,6 @@ pub fn compare_drawing(case: &DrawingCase, random: &mut Random, tally: &mut Tall
         return Err(format!("read again: {refusal}, {answer:?}, or other records"));
     }
     tally.note("write: what was written gives the records", true);
-    compare_image(&written, random, tally).map_err(|difference| format!("read again: {difference}"))
+    compare_image(&written, random, tally).map_err(|difference| format!("read again: {difference}"))?;
+    Ok(Some(written))
 }

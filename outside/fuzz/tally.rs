@@ -1,15 +1,17 @@
 //! What came up in a run: how often each call gave each refusal, of which kinds the cases were, and how often the
 //! searches and the panel did what is easily got wrong, had moves closed, went by the number of moves or used moves of
-//! time 0, and records were read and written at the bounds of what fits.
+//! time 0, records were read and written at the bounds of what fits, and what decided the order of maps.
 
 use crate::cycles;
 use outside::reference::image::Image;
 use outside::reference::letter::ByTimeAlone;
 use outside::reference::lists::{is_left_of, one_page_reads};
+use outside::reference::order::Named;
 use outside::reference::panel::{Inside, Panel};
 use outside::reference::route::Routes;
 use outside::reference::walks::{Leg, Pages, Truth};
 use outside::reference::{Answer, Search, NO_MOVES, NO_PREDECESSOR, SOURCE};
+use std::cmp::Ordering;
 use std::collections::BTreeMap;
 use std::fmt;
 
@@ -22,6 +24,9 @@ pub enum Call {
     Panel,
     Records,
     Write,
+    Order,
+    /// Where the order refuses the second image.
+    OrderSecond,
 }
 
 impl Call {
@@ -33,14 +38,17 @@ impl Call {
     }
 }
 
-/// Accepted, refusals 1 to 20, "no route".
-const OUTCOMES: usize = 22;
+/// Accepted, refusals 1 to 20, "no route", and what the order says where it accepts.
+const OUTCOMES: usize = 25;
 const NO_ROUTE: usize = 21;
+const EQUAL: usize = 22;
+const FIRST_LESS: usize = 23;
+const SECOND_LESS: usize = 24;
 /// "Time 0 is accepted in `02` and `03`, so 13 no longer occurs."
 const WITHDRAWN: usize = 13;
 
 /// The calls in their order, and what each can come to.
-const CALLS: [(&str, &[usize]); 7] = [
+const CALLS: [(&str, &[usize]); 9] = [
     ("check", &[0, 1, 2, 3, 4, 5, 8, 9, 10, 11, 12, 14, 18]),
     ("plain", &[0, 1, 2, 3, 4, 5, 6, 7, 8, 9, 10, 11, 12, 14, 18]),
     ("df", &[0, 1, 2, 3, 4, 5, 6, 7, 8, 9, 10, 11, 12, 14, 18]),
@@ -48,6 +56,8 @@ const CALLS: [(&str, &[usize]); 7] = [
     ("panel", &[0, 1, 2, 3, 4, 5, 6, 8, 9, 10, 11, 12, 14, 18, NO_ROUTE]),
     ("records", &[0, 1, 2, 3, 4, 5, 7, 8, 9, 10, 11, 12, 14, 18]),
     ("write", &[0, 2, 3, 4, 5, 19, 20]),
+    ("order", &[1, 2, 3, 4, 5, 8, 9, 10, 11, 12, 14, 18, EQUAL, FIRST_LESS, SECOND_LESS]),
+    ("order second", &[1, 2, 3, 4, 5, 8, 9, 10, 11, 12, 14, 18]),
 ];
 
 #[derive(Default)]
@@ -64,6 +74,18 @@ impl Tally {
 
     pub fn call(&mut self, call: Call, answer: Answer, no_route: bool) {
         let outcome = if no_route { NO_ROUTE } else { answer.refusal as usize };
+        self.calls[call as usize][outcome] += 1;
+    }
+
+    /// A call of the order. What it refuses is counted by the image.
+    pub fn named(&mut self, named: Named) {
+        let (call, outcome) = match named {
+            Named::Accepted(Ordering::Equal) => (Call::Order, EQUAL),
+            Named::Accepted(Ordering::Less) => (Call::Order, FIRST_LESS),
+            Named::Accepted(Ordering::Greater) => (Call::Order, SECOND_LESS),
+            Named::Refused { image: 1, by } => (Call::Order, by.refusal as usize),
+            Named::Refused { by, .. } => (Call::OrderSecond, by.refusal as usize),
+        };
         self.calls[call as usize][outcome] += 1;
     }
 
@@ -184,6 +206,9 @@ fn name(outcome: usize) -> String {
     match outcome {
         0 => "accepted".into(),
         NO_ROUTE => "no route".into(),
+        EQUAL => "equal".into(),
+        FIRST_LESS => "first less".into(),
+        SECOND_LESS => "second less".into(),
         refusal => format!("refused {refusal}"),
     }
 }
@@ -192,17 +217,18 @@ impl fmt::Display for Tally {
     fn fmt(&self, out: &mut fmt::Formatter) -> fmt::Result {
         write!(out, "{:<12}", "calls")?;
         for (call, _) in CALLS {
-            write!(out, "{call:>12}")?;
+            write!(out, "{call:>13}")?;
         }
         writeln!(out)?;
         for outcome in 0..OUTCOMES {
             write!(out, "{:<12}", name(outcome))?;
             for call in &self.calls {
-                write!(out, "{:>12}", call[outcome])?;
+                write!(out, "{:>13}", call[outcome])?;
             }
             writeln!(out)?;
         }
-        for (title, counts) in [("kinds of cases", &self.kinds), ("searches, the panel and records", &self.notes)] {
+        let titles = ["kinds of cases", "searches, the panel, records and the order"];
+        for (title, counts) in titles.into_iter().zip([&self.kinds, &self.notes]) {
             writeln!(out, "{title}")?;
             for (name, count) in counts {
                 writeln!(out, "{count:>12}  {name}")?;

@@ -1,8 +1,10 @@
 //! Maps as one draws them, and their bytes. `good` draws maps, some of them in `yards`, `damage` spoils them, `cases`
-//! makes the cases of the fuzzer of both; `drawings` and `spoiled` do so for the map writer.
+//! makes the cases of the fuzzer of both; `drawings` and `spoiled` do so for the map writer, `drafts` for the order of
+//! maps.
 
 pub mod cases;
 pub mod damage;
+pub mod drafts;
 pub mod drawings;
 pub mod good;
 pub mod spoiled;

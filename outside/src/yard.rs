@@ -119,6 +119,15 @@ extern "C" {
         answer: *mut u32,
         answer_len: usize,
     ) -> u32;
+
+    fn yard_order(
+        first: *const u8,
+        first_len: usize,
+        second: *const u8,
+        second_len: usize,
+        answer: *mut u32,
+        answer_len: usize,
+    ) -> u32;
 }
 
 /// The route to a station by the predecessors that a search left.
@@ -167,5 +176,14 @@ pub fn write(drawing: Drawing, image: &mut [u8], answer: &mut [u32]) -> u32 {
             answer.as_mut_ptr(),
             answer.len(),
         )
+    }
+}
+
+/// Which of two maps is the lesser, or which image is refused.
+pub fn order(first: &[u8], second: &[u8], answer: &mut [u32]) -> u32 {
+    // SAFETY: each pointer goes with the length of its own slice. The images are only read, and so may be the same or
+    // overlap; the answer is lent alone.
+    unsafe {
+        yard_order(first.as_ptr(), first.len(), second.as_ptr(), second.len(), answer.as_mut_ptr(), answer.len())
     }
 }

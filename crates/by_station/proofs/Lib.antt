@@ -2,3 +2,5 @@
 
 -- How far a page is read.
 pub mod Reached
+-- Where a walk of all records stands.
+pub mod Standing

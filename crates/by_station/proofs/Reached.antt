@@ -12,7 +12,7 @@ use Rattle.image.specs.Bytes.{Bytes}
 use Rattle.image.specs.Image.{directoryOf, pageBytes}
 use Rattle.image.proofs.Parts.{bytes-page}
 use Rattle.page.specs.Reading.{good, Leaving, readingOf, movesIn}
-use Rattle.page.specs.Good.{stationsFrom, names, codeOf, spellMove, spellMoves, spellStations, spelled}
+use Rattle.page.specs.Good.{stationsFrom, names, codeOf, spellMoves, spellStations, spelled}
 use Rattle.page.proofs.Reading.Steps.{IsMove, unlimited, limited}
 use Rattle.page.proofs.Good.Promise.{promise}
 use Rattle.page.proofs.Good.Spelling.{read-end, read-station, read-move, behind-move}
@@ -122,16 +122,21 @@ module _ (image : List ℕ) (p : ℕ) where
     reached-inside [] r = left-inside (r .left) (r .zeros) (r .spells)
     reached-inside (m ∷ rest) r = omega (arith, length-drop at page, ap length (r .spells))
 
-    -- behind the last move no move stands, and before it the first that is left
     none-stands : (left : List Leaving) (zeros : ℕ) → drop at page ≡ spelled left zeros → nextMove page at ≡ Over
     unfolding spellStations
     none-stands [] zeros e = ap (moveIn at) (read-end page at _ e)
     none-stands (x ∷ xs) zeros e = ap (moveIn at) (read-station page at (x .station) _ e)
 
-    first-stands : (m : Move) (rest : List ℕ) → drop at page ≡ spellMove m rest
+    -- Behind the last move no move stands, and before it the first that is left.
+    pub next-over : {after : ℕ} → Reached image p after at [] → nextMove page at ≡ Over
+    unfolding spellMoves
+    next-over r = none-stands (r .left) (r .zeros) (r .spells)
+
+    pub next-first : {after : ℕ} {m : Move} {rest : List Move} → Reached image p after at (m ∷ rest)
         → nextMove page at ≡ Found m (at + lengthOf (codeOf m))
-    first-stands m rest e =
-        let (x, reads, stands) = read-move page at m rest e in
+    unfolding spellMoves
+    next-first {m = m} r =
+        let (x, reads, stands) = read-move page at m _ (r .spells) in
         ap (moveIn at) stands ∙ next-is at reads
 
     -- A move stands there: it is the first that is left, and behind it the others are.
@@ -139,9 +144,9 @@ module _ (image : List ℕ) (p : ℕ) where
         → nextMove page at ≡ Found m behind
         → (rest : List Move) × (moves ≡ m ∷ rest) × Reached image p after behind rest
     unfolding spellMoves
-    reached-move [] r e = never (let none = none-stands (r .left) (r .zeros) (r .spells) in cc)
+    reached-move [] r e = never (let none = next-over r in cc)
     reached-move {after} {behind} {m} (n ∷ rest) r e =
-        let stands = first-stands n _ (r .spells) in
+        let stands = next-first r in
         let same : n ≡ m = cc in
         let there : at + lengthOf (codeOf n) ≡ behind = cc in
         let width = lengthOf (codeOf n) in
@@ -160,6 +165,5 @@ module _ (image : List ℕ) (p : ℕ) where
     -- No move stands there: none is left.
     pub reached-over : {after : ℕ} (moves : List Move) → Reached image p after at moves → nextMove page at ≡ Over
         → moves ≡ []
-    unfolding spellMoves
     reached-over [] r e = refl
-    reached-over (m ∷ rest) r e = never (let stands = first-stands m _ (r .spells) in cc)
+    reached-over (m ∷ rest) r e = never (let stands = next-first r in cc)

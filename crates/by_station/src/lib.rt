@@ -2,14 +2,22 @@
 // front to end: for each one it is known how far it was read.
 
 ghost use mathlib.Core.Path.{_≡_};
+ghost use mathlib.Core.List.{List};
+ghost use Rattle.image.specs.Image.{accepted};
+ghost use Rattle.whole.specs.Check.{wholeCheck};
+ghost use Rattle.move_record.specs.declared.MoveRecord.{MoveRecord};
 ghost use Rattle.roundtrip.specs.Records.{recordFor};
 ghost use Rattle.by_station.specs.Next.{nextMove};
+ghost use Rattle.by_station.specs.Standing.{Standing, Stepped};
 use commands::Command;
 use commands::LIMITED;
 use commands::MOVE;
 use commands::Move;
+use commands::STATION;
 use commands::command_at;
 use commands::length_of;
+use image::directory_of;
+use image::page_of;
 use move_record::MoveRecord;
 
 // How many pages a directory can name, whose entries are bytes.
@@ -44,4 +52,36 @@ pub fn record_for(u: u16, m: Move) -> MoveRecord
         time: m.time,
         limit: m.limit,
     }
+}
+
+// The next record of an image, or that there are no more.
+pub enum NextRecord {
+    Found(MoveRecord),
+    Over,
+}
+
+// The next record of a wholly good image, from the station on at which a walk of it stands. For each page the offset
+// behind its latest move is known or, where its next station has not been come to, behind that station.
+pub fn next_record(image: &[u8], from: usize, offsets: &mut [usize]) -> NextRecord
+    requires whole { ⌜ wholeCheck (now image) ≡ accepted ⌝ }
+    requires standing { ⌜ ((left : List MoveRecord) × Standing (now image) from (now offsets) left) ⌝ }
+    ensures next { λ r. ⌜ ((left : List MoveRecord)
+        → Standing (now (image .entry)) from (now (offsets .entry)) left
+        → Stepped (now (image .entry)) left r (now (offsets .exit))) ⌝ }
+{
+    let directory = directory_of(image);
+    let mut u = from;
+    while u < directory.len() {
+        let p = directory[u];
+        let at = offsets[p as usize];
+        match next_move(page_of(image, p), at) {
+            NextMove::Found(m, behind) => {
+                offsets[p as usize] = behind;
+                return NextRecord::Found(record_for(u as u16, m));
+            }
+            NextMove::Over => offsets[p as usize] = at + length_of(STATION),
+        }
+        u += 1;
+    }
+    NextRecord::Over
 }

@@ -8,6 +8,7 @@ use Rattle.image.specs.Image.{nowhere, at-station, on-page, Outcome, accepted, 
 use Rattle.route.specs.Route as route
 use Rattle.reply.specs.Reply.{Reply}
 use Rattle.roundtrip.specs.Written.{WriteOutcome, said, refused-record, refused-page}
+use Rattle.ordering.specs.Order.{Naming, ordered, first-less, equal, second-less, first-refused, second-refused}
 use Rattle.telling.specs.declared.Numbers.{Numbers}
 
 -- "Each call returns 0 if accepted, else the refusal's number"; of the answer the first four entries get count,
@@ -43,6 +44,15 @@ abbrev pub ofWritten : WriteOutcome → Numbers
 ofWritten (said outcome) = ofOutcome outcome 0 0
 ofWritten (refused-record number index) = numbers number 0 0 index 0
 ofWritten (refused-page number p) = numbers number 0 0 p 0
+
+-- Of two maps answer[0] is "the map that comes first: 1 the first image's, 2 the second's, 0 if they are equal"; at a
+-- refusal answer[1] is "the image that is refused: 1 the first, 2 the second".
+abbrev pub ofOrder : Naming → Numbers
+ofOrder (ordered equal) = numbers 0 0 0 0 0
+ofOrder (ordered first-less) = numbers 0 1 0 0 0
+ofOrder (ordered second-less) = numbers 0 2 0 0 0
+ofOrder (first-refused number place) = ofOutcome (refused number place) 0 1
+ofOrder (second-refused number place) = ofOutcome (refused number place) 0 2
 
 -- What a call returns and leaves in the answer. "Where answer has four entries or more, the first four get" the
 -- numbers; "A shorter answer is left as it is, and so are later entries."

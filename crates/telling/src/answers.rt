@@ -6,13 +6,16 @@ ghost use Rattle.reply.specs.Reply.{replyOf};
 ghost use Rattle.route.specs.Route.{meaning};
 ghost use Rattle.listing.specs.Found.{outcomeIn, countIn};
 ghost use Rattle.writing.specs.Answers.{outcomeOfWrite};
+ghost use Rattle.order.specs.Answers.{namingIn};
 ghost use Rattle.telling.specs.Numbers.{numbers, told, toldBy, ofOutcome, ofCheck, ofSearch, ofRoute};
-ghost use Rattle.telling.specs.Numbers.{ofRead, ofWritten, Small};
+ghost use Rattle.telling.specs.Numbers.{ofRead, ofWritten, ofOrder, Small};
 use super::Numbers;
 use image::Checked;
 use image::Place;
 use image::Refusal;
 use listing::ReadAnswer;
+use order::Comparison;
+use order::OrderAnswer;
 use reply::Answer;
 use route::RouteAnswer;
 use writing::WriteAnswer;
@@ -29,15 +32,15 @@ fn numbers(status: u8, count: usize, reached: usize, place: u32, offset: usize) 
     }
 }
 
-fn of_refusal(refusal: Refusal, count: usize) -> Numbers
-    ensures value { λ r. ⌜ r ≡ ofOutcome (refused (refusal .number) (placeOf (refusal .place))) count 0 ⌝ }
+fn of_refusal(refusal: Refusal, count: usize, reached: usize) -> Numbers
+    ensures value { λ r. ⌜ r ≡ ofOutcome (refused (refusal .number) (placeOf (refusal .place))) count reached ⌝ }
 {
     let number = refusal.number;
     let place = refusal.place;
     match place {
-        Place::Nowhere => numbers(number, count, 0, 0, 0),
-        Place::AtStation(station) => numbers(number, count, 0, station as u32, 0),
-        Place::OnPage { page, offset } => numbers(number, count, 0, page as u32, offset),
+        Place::Nowhere => numbers(number, count, reached, 0, 0),
+        Place::AtStation(station) => numbers(number, count, reached, station as u32, 0),
+        Place::OnPage { page, offset } => numbers(number, count, reached, page as u32, offset),
     }
 }
 
@@ -46,7 +49,7 @@ pub fn of_check(checked: Checked) -> Numbers
 {
     match checked {
         Checked::Whole => numbers(0, 0, 0, 0, 0),
-        Checked::Refused(refusal) => of_refusal(refusal, 0),
+        Checked::Refused(refusal) => of_refusal(refusal, 0, 0),
     }
 }
 
@@ -55,7 +58,7 @@ fn of_search(answer: Answer) -> Numbers
 {
     match answer {
         Answer::Accepted { count, reached } => numbers(0, count, reached, 0, 0),
-        Answer::Refused { refusal, count } => of_refusal(refusal, count),
+        Answer::Refused { refusal, count } => of_refusal(refusal, count, 0),
     }
 }
 
@@ -74,7 +77,7 @@ fn of_read(answer: ReadAnswer) -> Numbers
 {
     match answer {
         ReadAnswer::Listed(count) => numbers(0, count, 0, 0, 0),
-        ReadAnswer::Refused(refusal) => of_refusal(refusal, 0),
+        ReadAnswer::Refused(refusal) => of_refusal(refusal, 0, 0),
     }
 }
 
@@ -83,9 +86,23 @@ fn of_written(answer: WriteAnswer) -> Numbers
 {
     match answer {
         WriteAnswer::Written => numbers(0, 0, 0, 0, 0),
-        WriteAnswer::Refused(refusal) => of_refusal(refusal, 0),
+        WriteAnswer::Refused(refusal) => of_refusal(refusal, 0, 0),
         WriteAnswer::BadRecord(index) => numbers(19, 0, 0, index, 0),
         WriteAnswer::FullPage(page) => numbers(20, 0, 0, page as u32, 0),
+    }
+}
+
+pub fn of_order(answer: OrderAnswer) -> Numbers
+    ensures value { λ r. ⌜ r ≡ ofOrder (namingIn answer) ⌝ }
+{
+    match answer {
+        OrderAnswer::Ordered(order) => match order {
+            Comparison::FirstLess => numbers(0, 1, 0, 0, 0),
+            Comparison::Equal => numbers(0, 0, 0, 0, 0),
+            Comparison::SecondLess => numbers(0, 2, 0, 0, 0),
+        },
+        OrderAnswer::FirstRefused(refusal) => of_refusal(refusal, 0, 1),
+        OrderAnswer::SecondRefused(refusal) => of_refusal(refusal, 0, 2),
     }
 }
 

@@ -29,7 +29,8 @@ use Rattle.roundtrip.specs.Records.{recordsOf, listing, readCheck, listed, read
 use Rattle.roundtrip.specs.Written.{WriteOutcome, said, refused-record, refused-page, shapeCheck, rising, firstFull}
 use Rattle.roundtrip.specs.Written.{recordsCheck, afterShape, writeCheck, writing, writeCall}
 use Rattle.roundtrip.specs.Promises.{ReadPromised, WritePromised}
-use Rattle.telling.specs.Numbers.{numbers, ofOutcome, ofCheck, ofSearch, ofRoute, ofRead, ofWritten, Small}
+use Rattle.ordering.specs.Order.{Order, first-less, equal, second-less, byMap, afterFirst, afterSecond, naming}
+use Rattle.telling.specs.Numbers.{numbers, ofOutcome, ofCheck, ofSearch, ofRoute, ofRead, ofWritten, ofOrder, Small}
 
 sized : (s c r p o : ℕ) → c ≤ 12240 → r ≤ 2048 → o ≤ 256 → Small (numbers s c r p o)
 sized s c r p o few reached near = record { count = few; reached = reached; offset = near }
@@ -37,15 +38,32 @@ sized s c r p o few reached near = record { count = few; reached = reached; offs
 no-numbers : (s p : ℕ) → Small (numbers s 0 0 p 0)
 no-numbers s p = sized s 0 0 p 0 (omega arith) (omega arith) (omega arith)
 
-by-place : (o : Outcome) (count : ℕ) → count ≤ 12240 → PlaceBy256 o → Small (ofOutcome o count 0)
-by-place accepted count few k = sized 0 count 0 0 0 few (omega arith) (omega arith)
-by-place (refused number nowhere) count few k = sized number count 0 0 0 few (omega arith) (omega arith)
-by-place (refused number (at-station station)) count few k =
-    sized number count 0 station 0 few (omega arith) (omega arith)
-by-place (refused number (on-page p offset)) count few k = sized number count 0 p offset few (omega arith) k
+by-place : (o : Outcome) (count reached : ℕ) → count ≤ 12240 → reached ≤ 2048 → PlaceBy256 o
+    → Small (ofOutcome o count reached)
+by-place accepted count reached few less k = sized 0 count reached 0 0 few less (omega arith)
+by-place (refused number nowhere) count reached few less k = sized number count reached 0 0 few less (omega arith)
+by-place (refused number (at-station station)) count reached few less k =
+    sized number count reached station 0 few less (omega arith)
+by-place (refused number (on-page p offset)) count reached few less k = sized number count reached p offset few less k
 
 pub small-check : (image : List ℕ) → Small (ofCheck (wholeCheck image))
-small-check image = by-place (wholeCheck image) 0 (omega arith) (whole-by-256 image)
+small-check image = by-place (wholeCheck image) 0 0 (omega arith) (omega arith) (whole-by-256 image)
+
+-- The order of two maps: a refusal is that of either image's whole check.
+pub small-order : (first second : List ℕ) → Small (ofOrder (naming first second))
+unfolding naming
+small-order first second =
+    by-checks (wholeCheck first) (wholeCheck second) (whole-by-256 first) (whole-by-256 second) (byMap first second)
+  where
+    by-checks : (o also : Outcome) → PlaceBy256 o → PlaceBy256 also → (order : Order)
+        → Small (ofOrder (afterFirst o (afterSecond also order)))
+    by-checks (refused number place) also k l order =
+        by-place (refused number place) 0 1 (omega arith) (omega arith) k
+    by-checks accepted (refused number place) k l order =
+        by-place (refused number place) 0 2 (omega arith) (omega arith) l
+    by-checks accepted accepted k l first-less = sized 0 1 0 0 0 (omega arith) (omega arith) (omega arith)
+    by-checks accepted accepted k l equal = no-numbers 0 0
+    by-checks accepted accepted k l second-less = sized 0 2 0 0 0 (omega arith) (omega arith) (omega arith)
 
 -- An image as records: the whole check, then 7.
 module _ (image : List ℕ) (list : List MoveRecord) where
@@ -69,7 +87,7 @@ module _ (image : List ℕ) (list : List MoveRecord) where
   small-read left outcome count promised =
       let is : outcome ≡ readCheck image (length list) =
       ap (λ h. h .outcome) (promised .outcome) ∙ outcome-of (readCheck image (length list)) in
-      by-place outcome count (promised .few) (subst PlaceBy256 (sym is) read-by-256)
+      by-place outcome count 0 (promised .few) (omega arith) (subst PlaceBy256 (sym is) read-by-256)
 
 -- A written image: 2 to 5 name no offset, and 19 and 20 have one number each.
 abbrev WrittenBy256 : WriteOutcome → Type 0
@@ -98,7 +116,7 @@ module _ (size pages : ℕ) (directory : List ℕ) (room : ℕ) where
       by-shape (refused number place) k = k
 
 small-outcome : (o : WriteOutcome) → WrittenBy256 o → Small (ofWritten o)
-small-outcome (said o) k = by-place o 0 (omega arith) k
+small-outcome (said o) k = by-place o 0 0 (omega arith) (omega arith) k
 small-outcome (refused-record number index) k = no-numbers number index
 small-outcome (refused-page number p) k = no-numbers number p
 

@@ -3,7 +3,7 @@
 // what it does to the lent tables is what the engine's call does. A search promises a C caller what it promises every
 // caller (specs/Searches.antt), of the reply that the numbers tell and of the tables as they are left. The panel's call
 // alone has no numbers: its answer is one float (panel/specs/Panel.antt, `outside`). The map writer's two calls stand
-// in writer.rt.
+// in writer.rt. Of the order of maps only the naming call is exported: the other hands back a slice.
 
 ghost use mathlib.Core.Path.{_≡_};
 ghost use Rattle.net.specs.Search.{plainSearch, dfSearch};
@@ -13,11 +13,13 @@ ghost use Rattle.reply.specs.Reply.{asked, lent};
 ghost use Rattle.search.specs.Promises.{Promised, DfPromised};
 ghost use Rattle.panel.specs.Promises.{OutsidePromised};
 ghost use Rattle.telling.specs.Numbers.{told, toldBy, ofCheck, ofRoute};
+ghost use Rattle.yard.specs.Order.{OrderTold};
 ghost use Rattle.yard.specs.Searches.{SearchTold};
 
 pub mod writer;
 
 use telling::answers::of_check;
+use telling::answers::of_order;
 use telling::answers::of_route;
 use telling::answers::tell;
 use telling::answers::tell_search;
@@ -29,6 +31,15 @@ pub extern "C" fn yard_check(image: &[u8], answer: &mut [u32]) -> u32
         told r (now (answer .exit)) ≡ toldBy (ofCheck (wholeCheck (now (image .entry)))) (now (answer .entry)) ⌝ }
 {
     tell(of_check(whole::check(image)), answer)
+}
+
+// Which of two maps is less in the order of maps, or that they are equal.
+#[no_mangle]
+pub extern "C" fn yard_order(first: &[u8], second: &[u8], answer: &mut [u32]) -> u32
+    ensures told { λ r. ⌜
+        OrderTold (now (first .entry)) (now (second .entry)) r (now (answer .entry)) (now (answer .exit)) ⌝ }
+{
+    tell(of_order(order::compare(first, second)), answer)
 }
 
 // The plain search, Dijkstra's, for a strip of a length in decimetres.

@@ -248,6 +248,22 @@ pub fn change_byte(image: &mut [u8], random: &mut Random) {
     };
 }
 
+/// Damages an image of any content: its length, its heading, its directory or any bytes. It may still be good.
+pub fn damage(image: &mut Vec<u8>, random: &mut Random) {
+    let [low, high, ..] = image[..] else {
+        image.push(random.byte());
+        return;
+    };
+    let heading = image.len().min(4);
+    let front = image.len().min(4 + usize::from(u16::from_le_bytes([low, high])));
+    match random.below(8) {
+        0 => change_length(image, random),
+        1 => change_byte(&mut image[..heading], random),
+        2 => change_byte(&mut image[heading..front], random),
+        _ => (0..random.pick(&[1, 1, 2, 4])).for_each(|_| change_byte(image, random)),
+    }
+}
+
 /// Another image of the same length, heading and directory, and with the same bytes on the listed pages; all others
 /// are changed (demand 3).
 pub fn scramble_unlisted(image: &[u8], listed: &[bool; 256], random: &mut Random) -> Vec<u8> {

@@ -35,7 +35,8 @@ returns : tie.Need-returns
 returns c =
     let arm = c .before .before in
     let at = arm .before .before .before .before .args .at in
-    ap (λ n. Found (arm .m .given .0 .0) (at + n)) (c .length-of .ensures) ∙ next (arm .before .before) (arm .m .given .1)
+    ap (λ n. Found (arm .m .given .0 .0) (at + n)) (c .length-of .ensures) ∙
+    next (arm .before .before) (arm .m .given .1)
 
 returns-2 : tie.Need-returns-2
 returns-2 c =

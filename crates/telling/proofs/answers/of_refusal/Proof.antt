@@ -8,7 +8,8 @@ use Rattle.telling.proofs.answers.of_refusal.Statement.{statement}
 use Rattle.telling.proofs.answers.of_refusal.Tie as tie
 
 abbrev by-place : tie.Start → Place → Numbers
-by-place start place = let a = start .args in ofOutcome (refused (a .refusal .number) (placeOf place)) (a .count) 0
+by-place start place =
+    let a = start .args in ofOutcome (refused (a .refusal .number) (placeOf place)) (a .count) (a .reached)
 
 returns : tie.Need-returns
 returns c =
