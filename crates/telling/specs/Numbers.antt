@@ -1,6 +1,6 @@
 -- What the C interface makes of an outcome: a status and four numbers. The quoted words are those of include/yard.h.
 use mathlib.Core.List.{List, _∷_}
-use Prim.Native.Nat.{ℕ, _≤_}
+use Prim.Native.Nat.{ℕ, _<_}
 use lib.Dec.{ltb}
 use lib.ListN.{length, drop}
 use Rattle.common.specs.Pick.{pick}
@@ -70,6 +70,6 @@ toldBy n answer =
 
 -- For the code: numbers that a C caller's 32 bits hold, as those of every outcome are (yard/proofs/Small.antt).
 pub record Small (n : Numbers) : Type 0 where
-  pub count : n .count ≤ 12240
-  pub reached : n .reached ≤ 2048
-  pub offset : n .offset ≤ 256
+  pub count : n .count < 4294967296
+  pub reached : n .reached < 4294967296
+  pub offset : n .offset < 4294967296

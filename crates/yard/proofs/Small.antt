@@ -33,7 +33,7 @@ use Rattle.ordering.specs.Order.{Order, first-less, equal, second-less, byMap, 
 use Rattle.telling.specs.Numbers.{numbers, ofOutcome, ofCheck, ofSearch, ofRoute, ofRead, ofWritten, ofOrder, Small}
 
 sized : (s c r p o : ℕ) → c ≤ 12240 → r ≤ 2048 → o ≤ 256 → Small (numbers s c r p o)
-sized s c r p o few reached near = record { count = few; reached = reached; offset = near }
+sized s c r p o few reached near = record { count = omega arith; reached = omega arith; offset = omega arith }
 
 no-numbers : (s p : ℕ) → Small (numbers s 0 0 p 0)
 no-numbers s p = sized s 0 0 p 0 (omega arith) (omega arith) (omega arith)
