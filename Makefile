@@ -21,12 +21,13 @@ cases: layers
 	@python3 tests/make_panel_cases.py --check
 	@python3 tests/make_records_cases.py --check
 	@python3 tests/make_order_cases.py --check
+	@python3 tests/make_store_cases.py --check
 	@python3 tests/make_coils_examples.py --check
 
 # What would look at page bytes, by the names that the sources use: a slice under another name escapes this.
 LOOKS := \b(page|image)\[|(byte_at|word_at|part_of|command_at)\((page|image)\b
 SEE_NO_BYTES := layout queue cells relax rows page whole work reference engine tables reply \
-    search panel line coil move_record listing writing records order telling yard
+    search panel line coil move_record listing writing records order store telling yard
 # Not among them: by_station, which reads the moves of a good page command by command, and imaging, which writes pages.
 
 # Looks in the crates that are to see no page bytes for an index of, or a byte read from, a slice called page or image.
@@ -53,12 +54,13 @@ libyard:
 
 C99 := $(CC) -std=c99 -O2 -Wall -Wextra -Werror -pedantic -Iinclude
 
-# Builds the C programs way, panel, redraw and order and runs them: each status, closed ways, maps redrawn (needs C).
+# Builds the C programs way, panel, redraw, order and replay and runs them, with each of their statuses (needs C).
 c-example: libyard
 	$(C99) -o target/way examples/way.c target/staticlib/libyard.a
 	$(C99) -o target/panel examples/panel.c target/staticlib/libyard.a
 	$(C99) -o target/redraw examples/redraw.c target/staticlib/libyard.a
 	$(C99) -o target/order examples/order.c target/staticlib/libyard.a
+	$(C99) -o target/replay examples/replay.c target/staticlib/libyard.a
 	target/way crates/coils/data/yard.map 0 6
 	target/way examples/plate/yard.map 396 0; test $$? = 1
 	target/way crates/coils/data/yard.map 0 -1; test $$? = 2
@@ -111,6 +113,15 @@ c-example: libyard
 	grep '^Makefile refused 2: ' target/ordered
 	target/order crates/coils/data/yard.map; test $$? = 2
 	target/order crates/coils/data/yard.map target/no.map; test $$? = 2
+	target/replay crates/coils/data/yard.map 0 >target/replayed
+	grep '^references  *7  *3$$' target/replayed
+	grep '^ 1 frame  *4  *3$$' target/replayed
+	grep '^ 2 frames  *2  *2$$' target/replayed
+	test $$(wc -l <target/replayed) = 4
+	target/replay examples/plate/yard.map 203 8441
+	target/replay examples/plate/yard.map 396; test $$? = 1
+	target/replay crates/coils/data/yard.map; test $$? = 2
+	target/replay crates/coils/data/yard.map 0 65536; test $$? = 2
 
 # Measures the stack of each call of the C interface, on full and on damaged maps (needs a C compiler and ucontext).
 stack: libyard

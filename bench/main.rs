@@ -1,8 +1,8 @@
-//! The benchmark: the searches, the whole check, the panel, reading records, writing an image and ordering two through
-//! the C interface, against Dijkstra's search as one writes it in Rust without proofs (`baseline.rs`), reading and
-//! writing alike (`writer.rs`), ordering alike (`order.rs`) and, where they are built in, an earlier build of the
-//! library (`base.rs`) and other libraries (`peers.rs`). Takes the number of rounds as its argument and prints Markdown
-//! tables.
+//! The benchmark: the searches, the whole check, the panel, reading records, writing an image, ordering two and
+//! replaying recorded page lists through the C interface, against Dijkstra's search as one writes it in Rust without
+//! proofs (`baseline.rs`), reading and writing alike (`writer.rs`), ordering alike (`order.rs`), replaying alike
+//! (`replay.rs`) and, where they are built in, an earlier build of the library (`base.rs`) and other libraries
+//! (`peers.rs`). Takes the number of rounds as its argument and prints Markdown tables.
 
 #[cfg(base)]
 mod base;
@@ -13,6 +13,8 @@ mod maps;
 mod order;
 #[cfg(peers)]
 mod peers;
+mod recordings;
+mod replay;
 mod rounds;
 mod tables;
 mod timing;
@@ -47,6 +49,7 @@ fn main() {
     }
     tables::print_lists(&groups);
     calls::print_tables(rounds);
+    recordings::print_table(rounds);
 }
 
 fn measure(group: maps::Group, rounds: usize) -> Group {

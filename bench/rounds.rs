@@ -14,6 +14,18 @@ const WARM_UP: usize = 30;
 pub fn rounds<T>(
     rounds: usize,
     all: &mut [T],
+    source: impl FnMut() -> u16,
+    call: impl Fn(&mut T, u16),
+    look: impl FnMut(&[T]),
+) -> Vec<Vec<f64>> {
+    rounds_after(WARM_UP, rounds, all, source, call, look)
+}
+
+/// The same after fewer rounds to warm up, for calls that take long.
+pub fn rounds_after<T>(
+    warm_up: usize,
+    rounds: usize,
+    all: &mut [T],
     mut source: impl FnMut() -> u16,
     call: impl Fn(&mut T, u16),
     mut look: impl FnMut(&[T]),
@@ -21,14 +33,14 @@ pub fn rounds<T>(
     let mut random = Random::new(11);
     let mut order: Vec<usize> = (0..all.len()).collect();
     let mut times = vec![Vec::new(); all.len()];
-    for round in 0..WARM_UP + rounds {
+    for round in 0..warm_up + rounds {
         let source = source();
         random.shuffle(&mut order);
         for &who in &order {
             let start = Instant::now();
             call(&mut all[who], source);
             let taken = start.elapsed().as_secs_f64() * 1e6;
-            if round >= WARM_UP {
+            if round >= warm_up {
                 times[who].push(taken);
             }
         }

@@ -31,6 +31,8 @@ static size_t records_len, drawn_len;
 static uint8_t buffer[YARD_MAX_IMAGE_BYTES], full[YARD_MAX_IMAGE_BYTES];
 static const uint8_t *first, *second;
 static size_t first_len, second_len;
+static uint32_t distances[YARD_MAX_PAGES * YARD_MAX_PAGES], threshold;
+static size_t list_len, pages, frames, distances_len;
 
 static void nothing(void)
 {
@@ -82,6 +84,11 @@ static void order(void)
     returned = yard_order(first, first_len, second, second_len, answer, 4);
 }
 
+static void replay(void)
+{
+    returned = yard_replay(list, list_len, pages, frames, distances, distances_len, threshold, answer, 4);
+}
+
 /* What was seen of a call: the most bytes, and how often it was accepted and refused. */
 struct seen {
     const char *name;
@@ -99,6 +106,7 @@ static struct seen of_panel = {"yard_panel", panel, 0, 0, 0};
 static struct seen of_records = {"yard_records", read_records, 0, 0, 0};
 static struct seen of_write = {"yard_write", write_image, 0, 0, 0};
 static struct seen of_order = {"yard_order", order, 0, 0, 0};
+static struct seen of_replay = {"yard_replay", replay, 0, 0, 0};
 
 /* The bytes from the lowest one that is no longer paint to the stack's end, after the call on a stack of that paint. */
 static size_t used_on(uint8_t paint, void (*call)(void))
@@ -175,7 +183,7 @@ static size_t put_station(size_t at, uint32_t own, uint32_t longest, int limited
 static void put_full_map(uint32_t kind)
 {
     static const uint32_t longest[] = {1, 10, 65535};
-    size_t directory = 4, pages = directory + YARD_MAX_STATIONS, ends[YARD_MAX_PAGES] = {0};
+    size_t directory = 4, first_page = directory + YARD_MAX_STATIONS, ends[YARD_MAX_PAGES] = {0};
     uint32_t own;
 
     memset(image, 0, sizeof image);
@@ -183,7 +191,7 @@ static void put_full_map(uint32_t kind)
     put_word(put_word(0, YARD_MAX_STATIONS), YARD_MAX_PAGES);
     for (own = 0; own < YARD_MAX_STATIONS; own++) {
         uint32_t page = kind % 2 == 0 ? own * YARD_MAX_PAGES / YARD_MAX_STATIONS : own % YARD_MAX_PAGES;
-        size_t begins = pages + (size_t)page * YARD_PAGE_BYTES;
+        size_t begins = first_page + (size_t)page * YARD_PAGE_BYTES;
         image[directory + own] = (uint8_t)page;
         ends[page] = put_station(begins + ends[page], own, longest[kind / 2 % 3], kind >= LIMITED_FROM) - begins;
     }
@@ -247,6 +255,36 @@ static void measure_orders(void)
     measure_order(full, sizeof full, buffer, sizeof buffer);
 }
 
+/* Every page at some distance from every page, itself among them. */
+static void put_distances(void)
+{
+    size_t at;
+
+    for (at = 0; at < sizeof distances / sizeof distances[0]; at++)
+        distances[at] = below(1000);
+}
+
+/*
+ * The list that the last search left, and behind it what others did, in a store of any number of frames; then with a
+ * number of pages, frames or distances that is refused, or fewer pages than the list may name.
+ */
+static void measure_replays(void)
+{
+    list_len = YARD_MAX_STATIONS;
+    pages = YARD_MAX_PAGES;
+    frames = 1 + below(YARD_MAX_FRAMES);
+    distances_len = pages * pages;
+    threshold = below(1000);
+    measure(&of_replay);
+    switch (below(4)) {
+    case 0: pages = below(2) * (YARD_MAX_PAGES + 1); break;
+    case 1: frames = below(2) * (YARD_MAX_FRAMES + 1); break;
+    case 2: distances_len--; break;
+    default: pages = 1 + below(YARD_MAX_PAGES); distances_len = pages * pages;
+    }
+    measure(&of_replay);
+}
+
 /*
  * All calls on the map in hand; the route on the predecessors that the DF search left, or on damaged ones; the panel
  * from and to stations of its own, which the map need not have.
@@ -272,6 +310,7 @@ static void measure_all(void)
     measure(&of_panel);
     measure_records();
     measure_orders();
+    measure_replays();
 }
 
 /* Damages one byte of the map in hand at a time, takes it back, and now and then cuts the map short. */
@@ -306,6 +345,7 @@ int main(void)
     int kept;
 
     measure(&base);
+    put_distances();
     for (kind = 0; kind < FULL_MAPS; kind++) {
         put_full_map(kind);
         draw_full_map();
@@ -320,5 +360,6 @@ int main(void)
     kept &= told(&of_records);
     kept &= told(&of_write);
     kept &= told(&of_order);
+    kept &= told(&of_replay);
     return kept ? 0 : 1;
 }

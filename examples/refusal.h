@@ -1,5 +1,6 @@
 /*
- * What the examples way, redraw and order share: a refusal printed in words, with the place that the answer gives.
+ * What the examples way, redraw, order and replay share: a refusal printed in words, with the place that the answer
+ * gives.
  */
 #ifndef REFUSAL_H
 #define REFUSAL_H

@@ -15,14 +15,15 @@
  * handover: a stop, such as a turntable, that has two station numbers. README.md says it at more length, and lists the
  * definitions that say it exactly. A map can also be had as records, a struct yard_record for each move: yard_records
  * gives those of an image, yard_write the image of records; and by its records a map is put in order with others
- * (yard_order).
+ * (yard_order). The page lists that searches record are replayed to find how many pages a store of some frames reads
+ * (yard_replay).
  *
  * A slice is passed as a pointer and a length in entries; a length of 0 needs a pointer that is not null. The slices
- * of one call must not overlap, but for the two images of yard_order, which are only read: they may be the same memory
- * or overlap. No call allocates, and none keeps a pointer.
+ * of one call must not overlap, but for the two images of yard_order and the list and the distances of yard_replay,
+ * which are only read: they may be the same memory or overlap. No call allocates, and none keeps a pointer.
  *
  * Units: times are in tenths of a second, the length of a strip in decimetres, offsets in bytes, lengths of slices in
- * entries; moves are the number of moves on a way.
+ * entries; moves are the number of moves on a way; distances of pages and their threshold are in one unit, whichever.
  *
  * Threads: the library has no variables of its own, so that calls may run at the same time in any threads, also on the
  * same image, as long as no thread uses memory that another thread's call is writing.
@@ -30,14 +31,16 @@
  * Stack: a call's stack use stays below 256 KiB. The most that was seen, in bytes, arguments included (`make stack` on
  * x86-64: full maps and damaged ones):
  *     yard_check 77,584    yard_plain 112,752    yard_df 112,752    yard_route 72    yard_panel 133,184
- *     yard_records 177,616    yard_write 104,184    yard_order 81,904
+ *     yard_records 177,616    yard_write 104,184    yard_order 81,904    yard_replay 608
  *
- * Each call but yard_panel returns 0 if accepted, else the refusal's number (1 to 20, but never 13); yard_panel returns
- * a double and has no answer. Where answer has four entries or more, the first four get
+ * Each call but yard_panel returns 0 if accepted, else the refusal's number (1 to 20 and 23, but never 13); yard_panel
+ * returns a double and has no answer. Where answer has four entries or more, the first four get
  *     answer[0]  count:   entries of the page list, stations on the route, or records of the map;
- *                of yard_order the map that comes first: 1 the first image's, 2 the second's, 0 if they are equal
+ *                of yard_order the map that comes first: 1 the first image's, 2 the second's, 0 if they are equal;
+ *                of yard_replay the lower 32 bits of the number of reads
  *     answer[1]  reached: stations that have a time, the source among them;
- *                of a refusal by yard_order the image that is refused: 1 the first, 2 the second
+ *                of a refusal by yard_order the image that is refused: 1 the first, 2 the second;
+ *                of yard_replay the upper
  *     answer[2]  page of a page refusal (8 to 12, 14 and 18), and of 20; for 5 the station; for 19 the record's index
  *     answer[3]  offset of a page refusal in its page, in bytes: that of the command at fault
  * and numbers that do not apply are 0. A shorter answer is left as it is, and so are later entries.
@@ -54,7 +57,7 @@ extern "C" {
 
 /* The version of this interface: MAJOR rises when programs have to change, MINOR when something is added. */
 #define YARD_VERSION_MAJOR 3
-#define YARD_VERSION_MINOR 3
+#define YARD_VERSION_MINOR 4
 
 /* The limits of a map. Read a file into YARD_MAX_IMAGE_BYTES + 1 bytes: one that is too long is then refused by 4. */
 #define YARD_MAX_STATIONS 2048
@@ -70,6 +73,9 @@ extern "C" {
  * there are never more than 51 on each of YARD_MAX_PAGES pages.
  */
 #define YARD_MAX_RECORDS 12240
+
+/* The most frames of a store, for yard_replay. */
+#define YARD_MAX_FRAMES 64
 
 /* The entries of a station that was not reached, and the predecessor of the source. */
 #define YARD_NO_TIME UINT32_C(4294967295)
@@ -123,7 +129,9 @@ enum yard_refusal {
     YARD_REFUSED_LIMIT_ZERO = 18,
     /* of records to be written: answer[2] is the index of the first such record (19), the lowest such page (20) */
     YARD_REFUSED_RECORD = 19,
-    YARD_REFUSED_PAGE_FULL = 20
+    YARD_REFUSED_PAGE_FULL = 20,
+    /* of a replay; no call of this version returns 21 or 22 */
+    YARD_REFUSED_REPLAY = 23
 };
 
 /* A refusal's meaning in words; of 0 "accepted". The string is constant and is never null. */
@@ -150,6 +158,8 @@ static inline const char *yard_refusal_meaning(uint32_t refusal)
     case YARD_REFUSED_LIMIT_ZERO: return "limit of a move is 0";
     case YARD_REFUSED_RECORD: return "record is not of two stations of the map, or not above the record before it";
     case YARD_REFUSED_PAGE_FULL: return "stations and moves of a page need more than its 256 bytes";
+    case YARD_REFUSED_REPLAY:
+        return "number of frames is 0 or over 64, a list entry is not a page, or the distance table is not P by P";
     default: return "not a refusal of this version";
     }
 }
@@ -274,6 +284,36 @@ uint32_t yard_write(const struct yard_record *records, size_t records_len, uint1
  */
 uint32_t yard_order(const uint8_t *first, size_t first_len, const uint8_t *second, size_t second_len,
                     uint32_t *answer, size_t answer_len);
+
+/*
+ * How many pages a store reads for a recorded list of references. The store has a number of frames, each with room for
+ * one page, and holds nothing at first. A reference to a page that it holds is no read; any other is a miss, and one
+ * read. Only when all frames hold pages does one leave at a miss: the least recently used of those that are farther
+ * than the threshold from the page last referred to before the miss, or of all if none is.
+ *     list         the pages in the order in which they are referred to, as the searches list them; of any length
+ *     pages        the number of pages P, 1 to YARD_MAX_PAGES
+ *     frames       the number of frames, 1 to YARD_MAX_FRAMES
+ *     distances    P rows of P entries: in the row of the page last referred to, the distance from it to each page. It
+ *                  need not be the same both ways, and a page may be far from itself, and then leaves as any other
+ *     threshold    what a distance has to be above for a page to be far
+ * Refused are, in this order, neither with a place:
+ *     3     P is 0 or over YARD_MAX_PAGES
+ *     23    frames is 0 or over YARD_MAX_FRAMES, an entry of list is not below P, or distances_len is not P times P
+ * Accepted: answer[0] and answer[1] are the number of reads, of 64 bits; yard_replay_reads puts it together.
+ * With one frame it is the number of entries unlike the one before, the first counted with them; there the list of an
+ * accepted yard_df never takes more reads than that of yard_plain, but with several frames it may. With a threshold
+ * that no distance is above, as 0 with a table of zeros, it is always the least recently used page that leaves. More
+ * frames never read more, whatever the distances and the threshold.
+ */
+uint32_t yard_replay(const uint8_t *list, size_t list_len, size_t pages, size_t frames,
+                     const uint32_t *distances, size_t distances_len, uint32_t threshold,
+                     uint32_t *answer, size_t answer_len);
+
+/* The number of reads, of the answer of a replay that was accepted. */
+static inline uint64_t yard_replay_reads(const uint32_t *answer)
+{
+    return answer[0] + ((uint64_t)answer[1] << 32);
+}
 
 #ifdef __cplusplus
 }

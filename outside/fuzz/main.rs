@@ -9,6 +9,7 @@ mod orders;
 mod panels;
 mod paper;
 mod records;
+mod replays;
 mod routes;
 mod searches;
 mod tally;
@@ -72,7 +73,7 @@ fn one(seed: u64, number: u64, tally: &mut Tally) -> Result<(), String> {
     let case = cases::draw(&mut random);
     tally.kind(case.kind);
     let of_case = |difference| format!("{}: {difference}", case.kind);
-    searches::compare(&case, &mut random, tally).map_err(of_case)?;
+    let recorded = searches::compare(&case, &mut random, tally).map_err(of_case)?;
     let route = cases::draw_route(&mut random);
     tally.kind(route.kind);
     routes::compare(&route, &mut random, tally).map_err(|difference| format!("{}: {difference}", route.kind))?;
@@ -81,5 +82,6 @@ fn one(seed: u64, number: u64, tally: &mut Tally) -> Result<(), String> {
     tally.kind(drawing.kind);
     let written = records::compare_drawing(&drawing, &mut random, tally)
         .map_err(|difference| format!("{}: {difference}", drawing.kind))?;
-    orders::compare(&case.image, written, &mut random, tally).map_err(of_case)
+    orders::compare(&case.image, written, &mut random, tally).map_err(of_case)?;
+    replays::compare(recorded, &mut random, tally)
 }

@@ -1,15 +1,17 @@
 //! The examples that document 01 prints with their answers: the table of refusals, course cases C1 to C10 and the
 //! bounds named beside them; and what document 02 says of limits, the panel, the number of moves, moves of time 0,
-//! records and the order of maps, on these maps and on maps made for it. They are held against the reference as well as
-//! the engine, so that both hang on the paper.
+//! records, the order of maps and the store replay, on these maps and on maps and lists made for it. They are held
+//! against the reference as well as the engine, so that both hang on the paper.
 
 mod orders;
+mod replays;
 mod writer;
 
 use outside::maps::Map;
 use outside::reference::lists::one_page_reads;
 use outside::reference::panel::Panel;
 use outside::reference::records::{self, Drawing, Record};
+use outside::reference::replay::{self, Asked};
 use outside::reference::route::Routes;
 use outside::reference::{image, letter, order, Answer, Query, Search, Tables, SOURCE};
 use outside::yard;
@@ -22,6 +24,7 @@ type Show = fn(&[u8], Query, u16) -> f64;
 type Read = fn(&[u8], &mut [Record]) -> Answer;
 type Write = fn(Drawing, &mut [u8]) -> Answer;
 type Order = fn(&[u8], &[u8]) -> Answer;
+type Replay = fn(Asked) -> Answer;
 
 struct Calls {
     check: Check,
@@ -31,6 +34,7 @@ struct Calls {
     records: Read,
     write: Write,
     order: Order,
+    replay: Replay,
 }
 
 const REFERENCE: Calls = Calls {
@@ -41,6 +45,7 @@ const REFERENCE: Calls = Calls {
     records: |image, list| records::read(&records::of_image(image), list),
     write: records::write,
     order: |first, second| order::name(&order::rank(first), &order::rank(second)).answer(),
+    replay: |asked| replay::answer(asked.reads()),
 };
 
 const ENGINE: Calls = Calls {
@@ -51,6 +56,7 @@ const ENGINE: Calls = Calls {
     records: |image, list| answered(|answer| yard::records(image, list, answer)),
     write: |drawing, buffer| answered(|answer| yard::write(drawing, buffer, answer)),
     order: |first, second| answered(|answer| yard::order(first, second, answer)),
+    replay: |asked| answered(|answer| yard::replay(asked, answer)),
 };
 
 fn answered(call: impl FnOnce(&mut [u32]) -> u32) -> Answer {
@@ -69,6 +75,7 @@ pub fn compare() -> Result<usize, String> {
         let without_time = [turntables(&calls), cycles(&calls), fewer_handovers(&calls)];
         let parts = document_01.into_iter().chain(document_02).chain(without_time);
         let parts = parts.chain(writer::examples(&calls)).chain(orders::examples(&calls));
+        let parts = parts.chain(replays::examples(&calls));
         let examples: Vec<_> = parts.flatten().collect();
         if let Some((example, _)) = examples.iter().find(|(_, holds)| !holds) {
             return Err(format!("{name}: {example}"));

@@ -46,16 +46,25 @@ struct Both {
     panel: Panel,
 }
 
-pub fn compare(case: &Case, random: &mut Random, tally: &mut Tally) -> Result<(), String> {
+/// The lists that both searches recorded for the shorter strip, and the pages of the map.
+pub struct Recorded {
+    pub pages: usize,
+    pub plain: Vec<u8>,
+    pub df: Vec<u8>,
+}
+
+/// Hands back the lists of the searches, if these got as far as to a page.
+pub fn compare(case: &Case, random: &mut Random, tally: &mut Tally) -> Result<Option<Recorded>, String> {
     compare_check(case, random, tally)?;
     let tables = LentTables::new(case.stations, random);
     let [short, long] = case.strips;
     let shorter = compare_both(case, short, &tables, random, tally)?;
     let longer = compare_both(case, long, &tables, random, tally)?;
     compare_strips(&shorter, &longer, tally)?;
-    let Ok(image) = Image::open(&case.image) else { return Ok(()) };
+    let Ok(image) = Image::open(&case.image) else { return Ok(None) };
     let pages = walks::read_all(&image);
     compare_pages(&image, &pages, case)?;
+    let [plain, df] = [&shorter.plain, &shorter.df].map(|agreed| agreed.list().to_vec());
     let one_short = tables.moves_alone_short(image.stations) && shorter.df.answer.refusal == 7;
     tally.note("refused 7, only the table of moves too short", one_short);
     for both in [shorter, longer] {
@@ -64,7 +73,7 @@ pub fn compare(case: &Case, random: &mut Random, tally: &mut Tally) -> Result<()
                 .map_err(|difference| format!("strip {}: {difference}", both.query.strip))?;
         }
     }
-    Ok(())
+    Ok((!df.is_empty()).then_some(Recorded { pages: image.pages, plain, df }))
 }
 
 fn compare_check(case: &Case, random: &mut Random, tally: &mut Tally) -> Result<(), String> {

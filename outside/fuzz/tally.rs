@@ -1,6 +1,7 @@
 //! What came up in a run: how often each call gave each refusal, of which kinds the cases were, and how often the
 //! searches and the panel did what is easily got wrong, had moves closed, went by the number of moves or used moves of
-//! time 0, records were read and written at the bounds of what fits, and what decided the order of maps.
+//! time 0, records were read and written at the bounds of what fits, what decided the order of maps, and which pages
+//! left the store in replays.
 
 use crate::cycles;
 use outside::reference::image::Image;
@@ -27,6 +28,7 @@ pub enum Call {
     Order,
     /// Where the order refuses the second image.
     OrderSecond,
+    Replay,
 }
 
 impl Call {
@@ -38,17 +40,17 @@ impl Call {
     }
 }
 
-/// Accepted, refusals 1 to 20, "no route", and what the order says where it accepts.
-const OUTCOMES: usize = 25;
-const NO_ROUTE: usize = 21;
-const EQUAL: usize = 22;
-const FIRST_LESS: usize = 23;
-const SECOND_LESS: usize = 24;
+/// Accepted, refusals 1 to 23, "no route", and what the order says where it accepts.
+const OUTCOMES: usize = 28;
+const NO_ROUTE: usize = 24;
+const EQUAL: usize = 25;
+const FIRST_LESS: usize = 26;
+const SECOND_LESS: usize = 27;
 /// "Time 0 is accepted in `02` and `03`, so 13 no longer occurs."
 const WITHDRAWN: usize = 13;
 
 /// The calls in their order, and what each can come to.
-const CALLS: [(&str, &[usize]); 9] = [
+const CALLS: [(&str, &[usize]); 10] = [
     ("check", &[0, 1, 2, 3, 4, 5, 8, 9, 10, 11, 12, 14, 18]),
     ("plain", &[0, 1, 2, 3, 4, 5, 6, 7, 8, 9, 10, 11, 12, 14, 18]),
     ("df", &[0, 1, 2, 3, 4, 5, 6, 7, 8, 9, 10, 11, 12, 14, 18]),
@@ -58,6 +60,7 @@ const CALLS: [(&str, &[usize]); 9] = [
     ("write", &[0, 2, 3, 4, 5, 19, 20]),
     ("order", &[1, 2, 3, 4, 5, 8, 9, 10, 11, 12, 14, 18, EQUAL, FIRST_LESS, SECOND_LESS]),
     ("order second", &[1, 2, 3, 4, 5, 8, 9, 10, 11, 12, 14, 18]),
+    ("replay", &[0, 3, 23]),
 ];
 
 #[derive(Default)]
@@ -202,6 +205,11 @@ fn is_endless(preds: &[u16]) -> bool {
     !preds.iter().enumerate().all(leads)
 }
 
+/// Whether some call comes to it, or did before.
+fn is_known(outcome: usize) -> bool {
+    outcome == WITHDRAWN || CALLS.iter().any(|(_, outcomes)| outcomes.contains(&outcome))
+}
+
 fn name(outcome: usize) -> String {
     match outcome {
         0 => "accepted".into(),
@@ -220,14 +228,14 @@ impl fmt::Display for Tally {
             write!(out, "{call:>13}")?;
         }
         writeln!(out)?;
-        for outcome in 0..OUTCOMES {
+        for outcome in (0..OUTCOMES).filter(|&outcome| is_known(outcome)) {
             write!(out, "{:<12}", name(outcome))?;
             for call in &self.calls {
                 write!(out, "{:>13}", call[outcome])?;
             }
             writeln!(out)?;
         }
-        let titles = ["kinds of cases", "searches, the panel, records and the order"];
+        let titles = ["kinds of cases", "searches, the panel, records, the order and replays"];
         for (title, counts) in titles.into_iter().zip([&self.kinds, &self.notes]) {
             writeln!(out, "{title}")?;
             for (name, count) in counts {

@@ -1,6 +1,7 @@
 //! The engine's C interface (`include/yard.h`), and wrappers of it on slices. The only unsafe code of this folder.
 
 use crate::reference::records::{Drawing, Record};
+use crate::reference::replay::Asked;
 use crate::reference::Query;
 
 /// The whole check and both searches of a build of the engine, by the names that its functions have.
@@ -128,6 +129,18 @@ extern "C" {
         answer: *mut u32,
         answer_len: usize,
     ) -> u32;
+
+    fn yard_replay(
+        list: *const u8,
+        list_len: usize,
+        pages: usize,
+        frames: usize,
+        distances: *const u32,
+        distances_len: usize,
+        threshold: u32,
+        answer: *mut u32,
+        answer_len: usize,
+    ) -> u32;
 }
 
 /// The route to a station by the predecessors that a search left.
@@ -186,4 +199,29 @@ pub fn order(first: &[u8], second: &[u8], answer: &mut [u32]) -> u32 {
     unsafe {
         yard_order(first.as_ptr(), first.len(), second.as_ptr(), second.len(), answer.as_mut_ptr(), answer.len())
     }
+}
+
+/// The reads of a recorded page list.
+pub fn replay(asked: Asked, answer: &mut [u32]) -> u32 {
+    // SAFETY: each pointer goes with the length of its own slice. List and distances are only read, and so may overlap;
+    // the answer is lent alone.
+    unsafe {
+        yard_replay(
+            asked.list.as_ptr(),
+            asked.list.len(),
+            asked.pages,
+            asked.frames,
+            asked.distances.as_ptr(),
+            asked.distances.len(),
+            asked.threshold,
+            answer.as_mut_ptr(),
+            answer.len(),
+        )
+    }
+}
+
+/// The bytes of a table in its own memory: a list that overlaps it.
+pub fn bytes_of(table: &[u32]) -> &[u8] {
+    // SAFETY: a number of 32 bits is four bytes of any value, which are borrowed for as long as the table is.
+    unsafe { std::slice::from_raw_parts(table.as_ptr().cast(), size_of_val(table)) }
 }

@@ -1,11 +1,10 @@
 -- Beliefs from the course, on the course maps of document 01: each is refuted by computing the DF search, and where the
 -- belief is about how it goes on, a variant that follows the belief (docs/course.md tells them with their numbers).
 -- Beside them stand the runs on M7, so that a wrong definition of the run is refused by the course's numbers first.
-use Rattle.common.proofs.Ground.{_≡_, refl, Bool, true, false, not, _&&_, _||_, List, [], _∷_, Sublistᴰ}
-use Rattle.common.proofs.Ground.{Sublistᴰ·slnil, Sublistᴰ·cons, Sublistᴰ·cons-cons, ℕ, _+_, getD, set, take, eqb, ltb}
+use Rattle.common.proofs.Ground.{_≡_, refl, true, false, _&&_, List, [], _∷_, ℕ, _+_, getD, set, eqb, ltb}
 use Rattle.common.specs.Pick.{pick}
 use Rattle.common.specs.Costs.{cost, timeIn, noCost}
-use Rattle.net.specs.Net.{Move, Page, good, bad, Frame, one}
+use Rattle.net.specs.Net.{Move, Page, good, bad, Frame}
 use Rattle.net.specs.Search.{State, refused, costOf, predOf, isFresh, withTables, settle, markFresh, start}
 use Rattle.net.specs.Search.{timeTable, moveTable, least, choose}
 use Rattle.net.specs.Search.{chooseOn, onChoice, iter, readFor, relax, relaxAll, visit, workTurn, workThrough}
@@ -204,31 +203,3 @@ pub m7-runs :
     × ((runOf true m7 m7-bad-page 0) .halt ≡ refused 8 1 0) × ((runOf true m7 m7-bad-page 0) .pages ≡ 0 ∷ 1 ∷ [])
 unfolding iter least relax relaxAll firstWaiting firstOn visitOf turnOf pageWork reference stepRun runOf start
 m7-runs = (refl, refl, refl, refl, refl, refl, refl)
-
--- A store of a number of frames, least recently used out: the pages held, the latest first, and its reads of a list.
-abbrev holds : ℕ → List ℕ → Bool
-holds p [] = false
-holds p (q ∷ held) = eqb p q || holds p held
-
-abbrev without : ℕ → List ℕ → List ℕ
-without p [] = []
-without p (q ∷ held) = pick (eqb p q) held (q ∷ without p held)
-
-abbrev readsWith : ℕ → List ℕ → List ℕ → ℕ
-readsWith frames held [] = 0
-readsWith frames held (p ∷ list) = one (not (holds p held)) + readsWith frames (take frames (p ∷ without p held)) list
-
--- "A part of a list reads less in any store": with one frame 0 1 0 2 0 takes 5 reads and its part 0 1 2 0 takes 4, but
--- with two frames the whole takes 3 and the part 4.
-pub part-may-read-more :
-    Sublistᴰ {A = ℕ} (0 ∷ 1 ∷ 2 ∷ 0 ∷ []) (0 ∷ 1 ∷ 0 ∷ 2 ∷ 0 ∷ [])
-    × (readsWith 1 [] (0 ∷ 1 ∷ 0 ∷ 2 ∷ 0 ∷ []) ≡ 5) × (readsWith 1 [] (0 ∷ 1 ∷ 2 ∷ 0 ∷ []) ≡ 4)
-    × (readsWith 2 [] (0 ∷ 1 ∷ 0 ∷ 2 ∷ 0 ∷ []) ≡ 3) × (readsWith 2 [] (0 ∷ 1 ∷ 2 ∷ 0 ∷ []) ≡ 4)
-part-may-read-more = (
-  Sublistᴰ·cons-cons refl (Sublistᴰ·cons-cons refl
-      (Sublistᴰ·cons (Sublistᴰ·cons-cons refl (Sublistᴰ·cons-cons refl Sublistᴰ·slnil)))),
-  refl,
-  refl,
-  refl,
-  refl,
-)

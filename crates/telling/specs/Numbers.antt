@@ -1,6 +1,6 @@
 -- What the C interface makes of an outcome: a status and four numbers. The quoted words are those of include/yard.h.
 use mathlib.Core.List.{List, _∷_}
-use Prim.Native.Nat.{ℕ, _<_}
+use Prim.Native.Nat.{ℕ, _/_, _%_, _<_}
 use lib.Dec.{ltb}
 use lib.ListN.{length, drop}
 use Rattle.common.specs.Pick.{pick}
@@ -9,6 +9,7 @@ use Rattle.route.specs.Route as route
 use Rattle.reply.specs.Reply.{Reply}
 use Rattle.roundtrip.specs.Written.{WriteOutcome, said, refused-record, refused-page}
 use Rattle.ordering.specs.Order.{Naming, ordered, first-less, equal, second-less, first-refused, second-refused}
+use Rattle.paging.specs.Store as store
 use Rattle.telling.specs.declared.Numbers.{Numbers}
 
 -- "Each call returns 0 if accepted, else the refusal's number"; of the answer the first four entries get count,
@@ -53,6 +54,11 @@ ofOrder (ordered first-less) = numbers 0 1 0 0 0
 ofOrder (ordered second-less) = numbers 0 2 0 0 0
 ofOrder (first-refused number place) = ofOutcome (refused number place) 0 1
 ofOrder (second-refused number place) = ofOutcome (refused number place) 0 2
+
+-- Of a replay answer[0] is "the lower 32 bits of the number of reads", and answer[1] "the upper".
+abbrev pub ofReplay : store.Replay → Numbers
+ofReplay (store.reads n) = numbers 0 (n % 4294967296) (n / 4294967296) 0 0
+ofReplay (store.refused number) = numbers number 0 0 0 0
 
 -- What a call returns and leaves in the answer. "Where answer has four entries or more, the first four get" the
 -- numbers; "A shorter answer is left as it is, and so are later entries."

@@ -8,7 +8,8 @@ ghost use Rattle.listing.specs.Found.{outcomeIn, countIn};
 ghost use Rattle.writing.specs.Answers.{outcomeOfWrite};
 ghost use Rattle.order.specs.Answers.{namingIn};
 ghost use Rattle.telling.specs.Numbers.{numbers, told, toldBy, ofOutcome, ofCheck, ofSearch, ofRoute};
-ghost use Rattle.telling.specs.Numbers.{ofRead, ofWritten, ofOrder, Small};
+ghost use Rattle.store.specs.Answers.{replayIn};
+ghost use Rattle.telling.specs.Numbers.{ofRead, ofWritten, ofOrder, ofReplay, Small};
 use super::Numbers;
 use image::Checked;
 use image::Place;
@@ -18,7 +19,11 @@ use order::Comparison;
 use order::OrderAnswer;
 use reply::Answer;
 use route::RouteAnswer;
+use store::ReplayAnswer;
 use writing::WriteAnswer;
+
+// What the upper 32 bits of a number count.
+const UPPER: usize = 4294967296;
 
 fn numbers(status: u8, count: usize, reached: usize, place: u32, offset: usize) -> Numbers
     ensures value { λ r. ⌜ r ≡ numbers status count reached place offset ⌝ }
@@ -103,6 +108,15 @@ pub fn of_order(answer: OrderAnswer) -> Numbers
         },
         OrderAnswer::FirstRefused(refusal) => of_refusal(refusal, 0, 1),
         OrderAnswer::SecondRefused(refusal) => of_refusal(refusal, 0, 2),
+    }
+}
+
+pub fn of_replay(answer: ReplayAnswer) -> Numbers
+    ensures value { λ r. ⌜ r ≡ ofReplay (replayIn answer) ⌝ }
+{
+    match answer {
+        ReplayAnswer::Reads(reads) => numbers(0, reads % UPPER, reads / UPPER, 0, 0),
+        ReplayAnswer::Refused(number) => numbers(number, 0, 0, 0, 0),
     }
 }
 

@@ -1,7 +1,7 @@
 -- How small the numbers of every outcome are: a list and the stations reached number at most 2,048, as does a route,
 -- and records 12,240; and a fault stands at most at offset 256.
 use Rattle.common.proofs.Ground.{_≡_, refl, ap, sym, _∙_, subst, not, _+_, _*_, Bool, true, false, _||_, List, [], _∷_}
-use Rattle.common.proofs.Ground.{ℕ, zero, suc, _≤_, arith, length}
+use Rattle.common.proofs.Ground.{ℕ, zero, suc, _≤_, _<_, arith, length}
 use Rattle.common.proofs.Ground.{length-append, ltb, leb, eqb, ltb-false}
 use Rattle.common.specs.Numbers.{sourceMark, noPred}
 use Rattle.common.specs.Pick.{pick}
@@ -30,7 +30,11 @@ use Rattle.roundtrip.specs.Written.{WriteOutcome, said, refused-record, refused
 use Rattle.roundtrip.specs.Written.{recordsCheck, afterShape, writeCheck, writing, writeCall}
 use Rattle.roundtrip.specs.Promises.{ReadPromised, WritePromised}
 use Rattle.ordering.specs.Order.{Order, first-less, equal, second-less, byMap, afterFirst, afterSecond, naming}
-use Rattle.telling.specs.Numbers.{numbers, ofOutcome, ofCheck, ofSearch, ofRoute, ofRead, ofWritten, ofOrder, Small}
+use Rattle.paging.specs.Store as store
+use Rattle.paging.specs.Store.{readsFrom, unfit, replay}
+use Rattle.paging.proofs.Most.{reads-most}
+use Rattle.telling.specs.Numbers.{numbers, ofOutcome, ofCheck, ofSearch, ofRoute, ofRead, ofWritten, ofOrder}
+use Rattle.telling.specs.Numbers.{ofReplay, Small}
 
 sized : (s c r p o : ℕ) → c ≤ 12240 → r ≤ 2048 → o ≤ 256 → Small (numbers s c r p o)
 sized s c r p o few reached near = record { count = omega arith; reached = omega arith; offset = omega arith }
@@ -64,6 +68,17 @@ small-order first second =
     by-checks accepted accepted k l first-less = sized 0 1 0 0 0 (omega arith) (omega arith) (omega arith)
     by-checks accepted accepted k l equal = no-numbers 0 0
     by-checks accepted accepted k l second-less = sized 0 2 0 0 0 (omega arith) (omega arith) (omega arith)
+
+-- A replay: there are no more reads than entries, whose number has 64 bits.
+pub small-replay : (list : List ℕ) (pages frames : ℕ) (distances : List ℕ) (threshold : ℕ)
+    → length list < 18446744073709551616 → Small (ofReplay (replay list pages frames distances threshold))
+unfolding replay
+small-replay list pages frames distances threshold few =
+    let n = readsFrom pages distances threshold frames [] list in
+    by-pick (λ r. Small (ofReplay r)) (eqb pages 0 || ltb 240 pages) (λ three. no-numbers 3 0) (λ p.
+    by-pick (λ r. Small (ofReplay r)) (unfit list pages frames distances) (λ unfit. no-numbers 23 0) (λ fit.
+    let most : n < 18446744073709551616 = omega (arith, reads-most pages distances threshold frames [] list) in
+    record { count = omega arith; reached = omega arith; offset = omega arith }))
 
 -- An image as records: the whole check, then 7.
 module _ (image : List ℕ) (list : List MoveRecord) where

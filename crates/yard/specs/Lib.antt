@@ -1,3 +1,4 @@
 pub mod Order
+pub mod Replay
 pub mod Searches
 pub mod Writer

@@ -14,12 +14,14 @@ ghost use Rattle.search.specs.Promises.{Promised, DfPromised};
 ghost use Rattle.panel.specs.Promises.{OutsidePromised};
 ghost use Rattle.telling.specs.Numbers.{told, toldBy, ofCheck, ofRoute};
 ghost use Rattle.yard.specs.Order.{OrderTold};
+ghost use Rattle.yard.specs.Replay.{ReplayTold};
 ghost use Rattle.yard.specs.Searches.{SearchTold};
 
 pub mod writer;
 
 use telling::answers::of_check;
 use telling::answers::of_order;
+use telling::answers::of_replay;
 use telling::answers::of_route;
 use telling::answers::tell;
 use telling::answers::tell_search;
@@ -40,6 +42,26 @@ pub extern "C" fn yard_order(first: &[u8], second: &[u8], answer: &mut [u32]) ->
         OrderTold (now (first .entry)) (now (second .entry)) r (now (answer .entry)) (now (answer .exit)) ⌝ }
 {
     tell(of_order(order::compare(first, second)), answer)
+}
+
+// The reads of a recorded page list in a store of some frames, for a table of page distances and a threshold.
+#[no_mangle]
+pub extern "C" fn yard_replay(
+    list: &[u8],
+    pages: usize,
+    frames: usize,
+    distances: &[u32],
+    threshold: u32,
+    answer: &mut [u32],
+) -> u32
+    ensures told { λ r. ⌜
+        ReplayTold (now (list .entry)) pages frames (now (distances .entry)) threshold r (now (answer .entry))
+        (now (answer .exit)) ⌝ }
+{
+    tell(
+        of_replay(store::replay(list, pages, frames, distances, threshold)),
+        answer,
+    )
 }
 
 // The plain search, Dijkstra's, for a strip of a length in decimetres.
