@@ -157,13 +157,20 @@ bench-base:
 	@echo 'Now: make bench BASE=target/base/target/staticlib/libyard.a'
 
 OUTSIDE := target/outside/liboutside.rlib
+INTERFACE := target/outside/libinterface.rlib
 RUSTC := rustc --edition 2021 -C opt-level=3
+WITH_INTERFACE := --extern interface=$(INTERFACE)
+WITH_OUTSIDE := $(WITH_INTERFACE) --extern outside=$(OUTSIDE) -L target/outside
 
-$(OUTSIDE): $(wildcard outside/src/*.rs outside/src/*/*.rs)
+# The C interface for Rust programs.
+$(INTERFACE): $(wildcard interface/src/*.rs)
 	mkdir -p $(@D)
-	$(RUSTC) --crate-type rlib --crate-name outside -o $@ outside/src/lib.rs
+	$(RUSTC) --crate-type rlib --crate-name interface -o $@ interface/src/lib.rs
 
-LINKED := --extern outside=$(OUTSIDE) -L target/staticlib -l static=yard
+$(OUTSIDE): $(INTERFACE) $(wildcard outside/src/*.rs outside/src/*/*.rs)
+	$(RUSTC) --crate-type rlib --crate-name outside $(WITH_INTERFACE) -o $@ outside/src/lib.rs
+
+LINKED := $(WITH_OUTSIDE) -L target/staticlib -l static=yard
 
 target/outside/fuzz: $(OUTSIDE) $(wildcard outside/fuzz/*.rs outside/fuzz/*/*.rs) libyard
 	$(RUSTC) $(LINKED) -o $@ outside/fuzz/main.rs
@@ -187,7 +194,7 @@ PLACED := -C codegen-units=1 $(addprefix -C llvm-args=,-align-all-functions=6 -a
     -x86-branches-within-32B-boundaries)
 
 BENCH := $(OUTSIDE) $(wildcard bench/*.rs) target/outside/libtested.a $(if $(BASE),target/outside/libbase.a)
-MEASURED := --extern outside=$(OUTSIDE) -L target/outside -l static=tested $(if $(BASE),--cfg base -l static=base)
+MEASURED := $(WITH_OUTSIDE) -l static=tested $(if $(BASE),--cfg base -l static=base)
 
 target/outside/bench: $(BENCH)
 	$(RUSTC) $(PLACED) $(MEASURED) -o $@ bench/main.rs

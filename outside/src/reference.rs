@@ -14,36 +14,7 @@ pub mod replay;
 pub mod route;
 pub mod walks;
 
-/// The time of a station that has none.
-pub const NO_TIME: u32 = 4_294_967_295;
-/// The number of moves of a station that has no time.
-pub const NO_MOVES: u16 = 65_535;
-/// The predecessor of the source.
-pub const SOURCE: u16 = 65_534;
-/// The predecessor of a station that has no time.
-pub const NO_PREDECESSOR: u16 = 65_535;
-
-#[derive(Clone, Copy, Debug, PartialEq, Eq)]
-pub enum Search {
-    Plain,
-    Df,
-}
-
-/// What a search is asked: the station to start from, and the length of the strip in decimetres.
-#[derive(Clone, Copy, Debug, PartialEq, Eq)]
-pub struct Query {
-    pub source: u16,
-    pub strip: u16,
-}
-
-/// The five tables lent to a search.
-pub struct Tables<'a> {
-    pub times: &'a mut [u32],
-    pub moves: &'a mut [u16],
-    pub preds: &'a mut [u16],
-    pub marks: &'a mut [u8],
-    pub list: &'a mut [u8],
-}
+pub use interface::{Query, Search, Tables, NO_MOVES, NO_PREDECESSOR, NO_TIME, SOURCE};
 
 /// What a call answers: the refusal's number (0 where it accepts) and the numbers that go with it, 0 where they do
 /// not apply. `place` is the page, for refusal 5 the station, and for 19 the index of the record. The order of maps and

@@ -4,31 +4,7 @@
 use super::image::{self, Image, PAGE_BYTES};
 use super::Answer;
 
-/// A move record: "from, target, time, limit; limit 0 means `02`". In C it is four numbers of 16 bits in this order.
-#[repr(C)]
-#[derive(Clone, Copy, Debug, Default, PartialEq, Eq)]
-pub struct Record {
-    pub from: u16,
-    pub target: u16,
-    pub time: u16,
-    pub limit: u16,
-}
-
-impl Record {
-    /// What records are ordered by.
-    pub fn key(self) -> (u16, u16) {
-        (self.from, self.target)
-    }
-}
-
-/// What the writer takes beside the buffer: "a lent list of move records, N, P, a directory".
-#[derive(Clone, Copy)]
-pub struct Drawing<'a> {
-    pub records: &'a [Record],
-    pub stations: u16,
-    pub pages: u16,
-    pub directory: &'a [u8],
-}
+pub use interface::{Drawing, Record};
 
 /// The records of an image by rising (from, target); or what the whole check refuses.
 pub fn of_image(image: &[u8]) -> Result<Vec<Record>, Answer> {
