@@ -38,10 +38,19 @@ layers:
 # The kit's own C code, beside its guides.
 KIT_C = "$$(dirname "$$(rt doc)")/../lib/libos_c.a"
 
+# What a library is proved and built from.
+RATTLE := crates.txt $(shell find crates -name '*.rt' -o -name '*.antt')
+LIBYARD := target/staticlib/libyard.a
+
+target/staticlib/lib%.a: $(RATTLE)
+	rt staticlib $*
+	touch $@
+
 # Builds target/coils, the program with an exit status (needs a C compiler).
-coils:
-	rt staticlib coils_io
-	$(CC) -std=c99 -Wall -Wextra -Werror -o target/coils host/coils.c target/staticlib/libcoils_io.a $(KIT_C)
+coils: target/coils
+
+target/coils: host/coils.c target/staticlib/libcoils_io.a
+	$(CC) -std=c99 -Wall -Wextra -Werror -o $@ $^ $(KIT_C)
 
 # Runs both builds of coils from outside: maps and records of every kind, slow and closed streams (needs Python 3, C).
 coils-test: coils
@@ -49,13 +58,12 @@ coils-test: coils
 	python3 tests/coils_outside.py
 
 # Proves the C interface and what is below it, and writes target/staticlib/libyard.a.
-libyard:
-	rt staticlib yard
+libyard: $(LIBYARD)
 
 C99 := $(CC) -std=c99 -O2 -Wall -Wextra -Werror -pedantic -Iinclude
 
 # Builds the C programs way, panel, redraw, order and replay and runs them, with each of their statuses (needs C).
-c-example: libyard
+c-example: $(LIBYARD)
 	$(C99) -o target/way examples/way.c target/staticlib/libyard.a
 	$(C99) -o target/panel examples/panel.c target/staticlib/libyard.a
 	$(C99) -o target/redraw examples/redraw.c target/staticlib/libyard.a
@@ -124,7 +132,7 @@ c-example: libyard
 	target/replay crates/coils/data/yard.map 0 65536; test $$? = 2
 
 # Measures the stack of each call of the C interface, on full and on damaged maps (needs a C compiler and ucontext).
-stack: libyard
+stack: $(LIBYARD)
 	$(C99) -D_XOPEN_SOURCE=700 -o target/stack bench/stack.c target/staticlib/libyard.a
 	target/stack
 
@@ -172,19 +180,19 @@ $(OUTSIDE): $(INTERFACE) $(wildcard outside/src/*.rs outside/src/*/*.rs)
 
 LINKED := $(WITH_OUTSIDE) -L target/staticlib -l static=yard
 
-target/outside/fuzz: $(OUTSIDE) $(wildcard outside/fuzz/*.rs outside/fuzz/*/*.rs) libyard
+target/outside/fuzz: $(OUTSIDE) $(wildcard outside/fuzz/*.rs outside/fuzz/*/*.rs) $(LIBYARD)
 	$(RUSTC) $(LINKED) -o $@ outside/fuzz/main.rs
 
 # In the builds that are measured each function begins at a line of the cache, 64 bytes: by its place in the program
 # alone the same code is up to 4 percent slower.
 ALIGNED := objcopy --set-section-alignment '.text.*=64'
 
-.PHONY: target/outside/libtested.a target/outside/libbase.a
-target/outside/libtested.a: $(OUTSIDE) libyard
-	$(ALIGNED) target/staticlib/libyard.a $@
+target/outside/libtested.a: $(OUTSIDE) $(LIBYARD)
+	$(ALIGNED) $(LIBYARD) $@
 
 # The functions of BASE get other names, so that one program has both builds.
-target/outside/libbase.a: $(OUTSIDE) libyard
+.PHONY: target/outside/libbase.a
+target/outside/libbase.a: $(OUTSIDE)
 	nm --extern-only --defined-only --format=posix "$(BASE)" | awk 'NF > 1 { print $$1, "base_" $$1 }' >$@.names
 	$(ALIGNED) --redefine-syms=$@.names "$(BASE)" $@
 
