@@ -1,4 +1,5 @@
-.PHONY: run test cases layers coils coils-test c-example stack fuzz bench bench-peers bench-base libyard help
+.PHONY: run test cases layers coils coils-test libyard yard tool-test pictures install uninstall c-example stack fuzz \
+    bench bench-peers bench-base help
 
 # Proves and builds the program coils and runs it on document 01's example and on a plate yard.
 run:
@@ -219,6 +220,52 @@ target/outside/libpeers.a: $(PEERS)
 
 target/outside/bench-peers: $(BENCH) target/outside/libpeers.a
 	$(RUSTC) $(PLACED) $(MEASURED) --cfg peers -l static=peers -l stdc++ -o $@ bench/main.rs
+
+# The version stands in the C interface's header.
+VERSION := $(shell awk '/define YARD_VERSION_(MAJOR|MINOR)/ { printf "%s%s", dot, $$3; dot = "." }' include/yard.h)
+TOOL := target/tool/libtool.rlib
+WITH_TOOL := $(WITH_INTERFACE) --extern tool=$(TOOL) -L target/outside -L target/staticlib -l static=yard
+
+$(TOOL): $(INTERFACE) $(wildcard tool/src/*.rs tool/src/*/*.rs) include/yard.h
+	mkdir -p $(@D)
+	YARD_VERSION=$(VERSION) $(RUSTC) --crate-type rlib --crate-name tool $(WITH_INTERFACE) -o $@ tool/src/lib.rs
+
+# Builds target/yard, the tool of those who draw, check and read maps (needs rustc).
+yard: target/yard
+
+target/yard: $(TOOL) tool/main.rs $(LIBYARD)
+	$(RUSTC) $(WITH_TOOL) -C strip=symbols -o $@ tool/main.rs
+
+target/tool/random: $(TOOL) $(OUTSIDE) tool/random.rs $(LIBYARD)
+	$(RUSTC) $(WITH_TOOL) --extern outside=$(OUTSIDE) -o $@ tool/random.rs
+
+MAPS ?= 100000
+
+# Tests the tool: every command and error, broken files, MAPS maps of random bytes (needs rustc, Python 3, C).
+tool-test: yard coils target/tool/random
+	python3 tests/tool/run.py
+	target/tool/random $(MAPS) $(SEED)
+
+# Draws the pictures in docs anew (needs rustc and Graphviz).
+pictures: yard
+	target/yard dot examples/maps/m7.map --from 0 | dot -Tsvg >docs/m7.svg
+
+PREFIX ?= /usr/local
+INSTALLED := bin/coils bin/yard include/yard.h lib/libyard.a lib/pkgconfig/yard.pc share/man/man1/yard.1
+PLACE = '$(DESTDIR)$(PREFIX)'
+
+# Installs coils, yard, the header, the library, a pkg-config file and the man page below PREFIX (needs rustc, C).
+install: coils yard
+	mkdir -p $(foreach folder,$(sort $(dir $(INSTALLED))),$(PLACE)/$(folder))
+	install -m 755 target/coils target/yard $(PLACE)/bin
+	install -m 644 include/yard.h $(PLACE)/include
+	install -m 644 $(LIBYARD) $(PLACE)/lib
+	sed 's|@PREFIX@|$(PREFIX)|; s|@VERSION@|$(VERSION)|' tool/yard.pc.in >$(PLACE)/lib/pkgconfig/yard.pc
+	install -m 644 tool/yard.1 $(PLACE)/share/man/man1
+
+# Removes what install put below PREFIX.
+uninstall:
+	rm -f $(foreach file,$(INSTALLED),$(PLACE)/$(file))
 
 # Lists the targets, each by the comment above it.
 help:

@@ -1,5 +1,6 @@
 /*
- * The yard's routing engine for C99 and C++11 programs. Link libyard.a (rt staticlib yard).
+ * The yard's routing engine for C99 and C++11 programs. Link libyard.a (make libyard; where it is installed,
+ * pkg-config --cflags --libs yard).
  *
  * A map image is the whole map as bytes; whole numbers are little-endian, u16 has 16 bits:
  *     u16 N            number of stations, 1 to YARD_MAX_STATIONS; they are numbered from 0
@@ -55,9 +56,12 @@
 extern "C" {
 #endif
 
-/* The version of this interface: MAJOR rises when programs have to change, MINOR when something is added. */
+/*
+ * The version of this interface and of what is installed with it, the programs coils and yard: MAJOR rises when
+ * programs have to change, MINOR when something is added. This is the only place where it stands.
+ */
 #define YARD_VERSION_MAJOR 3
-#define YARD_VERSION_MINOR 4
+#define YARD_VERSION_MINOR 5
 
 /* The limits of a map. Read a file into YARD_MAX_IMAGE_BYTES + 1 bytes: one that is too long is then refused by 4. */
 #define YARD_MAX_STATIONS 2048

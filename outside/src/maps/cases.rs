@@ -37,6 +37,13 @@ pub fn draw(random: &mut Random) -> Case {
     Case { kind, image, source, strips, stations: map.stations(), known }
 }
 
+/// A case of random bytes only.
+pub fn draw_random_bytes(random: &mut Random) -> Case {
+    let image = random_bytes(random);
+    let (source, strips) = (random.below(42) as u16, [0, random.below(65_536) as u16]);
+    Case { kind: "random bytes", image, source, strips, stations: 40, known: None }
+}
+
 /// A station of the map, now and then one that it does not have. Where moves take no time it is often one that such
 /// moves lead to and from, as those of a turntable do.
 fn source(map: &Map, random: &mut Random) -> u16 {
