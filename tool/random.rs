@@ -1,7 +1,7 @@
 //! `random [COUNT [SEED [FIRST]]]` runs every command of the tool on COUNT maps of random bytes and on as many of the
-//! fuzzer's cases: good maps and maps damaged in every way. No command may panic, each status and each refusal has to be
-//! the engine's, good maps have to come back from their texts, and texts with random changes have to be refused or to
-//! become good maps. A difference ends it with a failing status and the words that bring the case up again.
+//! fuzzer's cases: good maps and maps damaged in every way. No command may panic, each status and each refusal has to
+//! be the engine's, good maps have to come back from their texts, and texts with random changes have to be refused or
+//! to become good maps. A difference ends it with a failing status and the words that bring the case up again.
 
 use interface::{Query, Search, Tables, MAX_STATIONS};
 use outside::maps::cases::{self, Case};

@@ -1,4 +1,5 @@
-//! The calls, declared as `include/yard.h` has them, and wrappers of them on slices. The only unsafe code of this folder.
+//! The calls, declared as `include/yard.h` has them, and wrappers of them on slices. The only unsafe code of this
+//! folder.
 
 use crate::{Drawing, Query, Record};
 

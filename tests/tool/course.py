@@ -1,5 +1,5 @@
-"""What docs/course.md says of wrong programs on the strip and the plate map: that the strip does not show them, and what
-they give on the plate."""
+"""What docs/course.md says of wrong programs on the strip and the plate map: that the strip does not show them, and
+what they give on the plate."""
 from harness import ROOT, check
 from reader import parse
 from searches import NO_TIME, Search, df, df_step

@@ -1,5 +1,5 @@
-"""What the tests of answers share: a folder for maps, the program's answers as text and as JSON, and maps, by hand and by
-chance, good and bad."""
+"""What the tests of answers share: a folder for maps, the program's answers as text and as JSON, and maps, by hand and
+by chance, good and bad."""
 import json
 import re
 from collections import namedtuple

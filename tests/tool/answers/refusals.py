@@ -1,5 +1,5 @@
-"""A refusal held against the reference: its number, its place, the numbers in what is said of it, and its rows of bytes.
-Of a sentence that says what is wrong, only the numbers are compared: how it is put is for the sessions to keep."""
+"""A refusal held against the reference: its number, its place, the numbers in what is said of it, and its rows of
+bytes. Of a sentence that says what is wrong, only the numbers are compared: how it is put is for the sessions to keep."""
 from harness import check
 
 from make_search_cases import page_begins
