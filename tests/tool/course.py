@@ -1,7 +1,11 @@
-"""What docs/course.md says of wrong programs on the strip and the plate map: that the strip does not show them, and
-what they give on the plate."""
+"""What docs/course.md says beside its commands: of wrong programs on the strip and the plate map, that the strip does
+not show them, and what they give on the plate; and that the map on which the shorter list reads more is the smallest."""
+from itertools import combinations, product
+
 from harness import ROOT, check
+
 from reader import parse
+from replay import Call, Replay
 from searches import NO_TIME, Search, df, df_step
 from searches import run as search
 
@@ -31,7 +35,37 @@ def wrong(image, times):
     return {station: time for station, time in enumerate(times) if time != right[station]}
 
 
+def reads(pages, frames):
+    """With the least recently used page leaving: no page is far from another."""
+    count = max(pages) + 1
+    return Replay().answer(Call(bytes(pages), count, frames, [0] * count * count, 0))[1]
+
+
+def reading_more(size):
+    """The lists of so many entries of which a part reads more, with some number of frames, and such parts. Pages are
+    numbered in the order in which they come."""
+    found = set()
+    for pages in product(range(size), repeat=size):
+        if any(page > max(pages[:k], default=-1) + 1 for k, page in enumerate(pages)):
+            continue
+        for left in range(1, size):
+            for part in combinations(pages, left):
+                if any(reads(part, frames) > reads(pages, frames) for frames in range(1, size + 1)):
+                    found.add((pages, part))
+    return found
+
+
+def check_smallest():
+    """Dijkstra's list has an entry for each station that is reached. Only one list of five entries or fewer has a part
+    that reads more, so that five stations on three pages are needed, and four moves to reach the four others."""
+    check('lists of up to four entries', [reading_more(size) for size in range(1, 5)], [set()] * 4)
+    check('lists of five entries', reading_more(5), {((0, 1, 0, 2, 0), (0, 1, 2, 0))})
+    _, n, _, pages = parse((ROOT / 'examples' / 'maps' / 'shorter.map').read_bytes())
+    check('the smallest map', (n, len(pages)), (5, 3))
+
+
 def run():
+    check_smallest()
     strip, plate = ((ROOT / 'examples' / 'maps' / name).read_bytes() for name in ('strip.map', 'plate.map'))
     stays = {image: search(df_step, image, 0, 0, (16,) * 5, StaysFresh).times for image in (strip, plate)}
     check('strip, seen once', wrong(strip, seen_once(strip)), {})
