@@ -1,5 +1,6 @@
 """What docs/course.md says beside its commands: of wrong programs on the strip and the plate map, that the strip does
-not show them, and what they give on the plate; and that the map on which the shorter list reads more is the smallest."""
+not show them, and what they give on the plate; and that the map on which the shorter list reads more is the smallest.
+"""
 from itertools import combinations, product
 
 from harness import ROOT, check
