@@ -1,6 +1,8 @@
 // The moves of a wholly good image, station by station. A page's stations rise, so that each page is read once from
 // front to end: for each one it is known how far it was read.
 
+#![tactic(auto)]
+
 ghost use Rattle.std.specs.Prelude.{◌≡◌, List};
 ghost use Rattle.image.specs.Image.{accepted};
 ghost use Rattle.whole.specs.Check.{whole_check};

@@ -4,6 +4,8 @@
 // program's own; at its end are its changes, each an offset (u32) and the byte that the image has there from this call
 // on. Labels and changes are printed as they are read. And what such programs print alike: a refusal with its place.
 
+#![tactic(auto)]
+
 use image::bytes::word_at;
 use image::{Place, Refusal};
 use libc::{STDIN_FILENO, STDOUT_FILENO};

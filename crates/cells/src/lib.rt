@@ -3,6 +3,8 @@
 // told of every key that falls. Where a station's slot and page stand is read from a lent table, the places. A cell and
 // a key are each a cost times 2048, plus a station. That the lesser of two cells is the rule of 01 is in
 // proofs/Cells.antt; what a search cites of a move relaxed, in proofs/Relaxed.antt.
+#![tactic(auto)]
+
 ghost use Rattle.std.specs.Prelude.{◌≡◌, ◌/◌, ◌<◌, min, ltb, length, get_or, set};
 ghost use Rattle.queue.specs.Keys.{packed};
 ghost use Rattle.cells.specs.Cells.{memory, most_cost, lowered_key, Relaxed, Room, PlacedAt};

@@ -1,6 +1,8 @@
 // The answer to a coil record: the DF search from the record's station for a strip of its length, as the line of text
 // that the program `coils` prints (01, "Route, whole check, program").
 
+#![tactic(auto)]
+
 ghost use Rattle.std.specs.Prelude.{◌≡◌, ◌≤◌, length};
 ghost use Rattle.common.specs.Window.{placed};
 ghost use Rattle.net.specs.Search.{df_search};

@@ -2,6 +2,8 @@
 // writes each record's line before it waits for the next (01, "Route, whole check, program"). What is made of the bytes
 // is proved in the crate `coil`; here are only reading and writing, of which no contract can speak.
 
+#![tactic(auto)]
+
 ghost use Rattle.std.specs.Prelude.{◌≡◌, ◌⊎◌, pos};
 
 use coil::ROOM;

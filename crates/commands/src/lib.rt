@@ -1,6 +1,8 @@
 // The commands of a page (01, "Map image"): which one stands at an offset, and how long it is. Only this crate and
 // rules, which judges a command, look at the bytes of a page.
 
+#![tactic(auto)]
+
 ghost use Rattle.std.specs.Prelude.{◌≡◌, ◌+◌, ◌≤◌, ◌<◌, leb, length};
 ghost use Rattle.commands.specs.Commands.{length_of, move_with, command_at};
 

@@ -2,6 +2,8 @@
 // in specs/Numbers.antt), time and moves as one cost (specs/Costs.antt), chains of predecessors (specs/Chains.antt),
 // the choice by a test (specs/Pick.antt), and a part of a table written (specs/Window.antt).
 
+#![tactic(auto)]
+
 // The time of a station that has none.
 pub const NO_TIME: u32 = 4294967295;
 

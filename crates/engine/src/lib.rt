@@ -3,6 +3,8 @@
 // and predecessor; the keys by which stations wait; the queue of pages. The moves of a page are rows that the page
 // reader has laid out.
 
+#![tactic(auto)]
+
 ghost use Rattle.std.specs.Prelude.{◌≡◌, ◌≤◌, ◌<◌, length, replicate};
 ghost use Rattle.common.specs.Numbers.{nobody};
 ghost use Rattle.image.specs.Image.{directory_of, heading_check, accepted};

@@ -1,6 +1,8 @@
 // The map image (01, "Map image"): its heading, its directory and where its pages stand; refusals 1 to 5. What lies
 // past an image's end reads as 0, or as nothing.
 
+#![tactic(auto)]
+
 ghost use Rattle.std.specs.Prelude.{◌≡◌, ◌≤◌, ◌<◌, ◌||◌, eqb, ltb, length};
 ghost use Rattle.image.specs.Image.{station_count, page_count, directory_of, page_bytes, first_not_below};
 ghost use Rattle.image.specs.Image.{refused, heading_check, place_of, outcome_of};

@@ -1,5 +1,7 @@
 // The image of records that are kept as plain numbers, written into a buffer once nothing is refused (02, C-16).
 
+#![tactic(auto)]
+
 ghost use Rattle.std.specs.Prelude.{◌≡◌, ◌++◌, ◌+◌, ◌*◌, ◌≤◌, length, drop};
 ghost use Rattle.move_record.specs.Kept.{kept_from};
 ghost use Rattle.roundtrip.specs.Written.{heading_for, written};

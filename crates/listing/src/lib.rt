@@ -1,5 +1,7 @@
 // The records of an image, kept as plain numbers (02, C-16). No list of records is seen here.
 
+#![tactic(auto)]
+
 ghost use Rattle.std.specs.Prelude.{◌≡◌, [], ◌+◌, ◌≤◌, ◌<◌, length, get_or};
 ghost use Rattle.image.specs.Image.{accepted, directory_of};
 ghost use Rattle.whole.specs.Check.{whole_check};

@@ -2,6 +2,8 @@
 // limit 0 means `02`)". One function reads a record of such a list and one puts one there; all other code has records
 // by value, or kept as plain numbers (kept.rt).
 
+#![tactic(auto)]
+
 ghost use Rattle.std.specs.Prelude.{◌≡◌, ◌<◌, length, get_or, set};
 ghost use Rattle.move_record.specs.Records.{no_record};
 

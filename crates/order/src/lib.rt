@@ -1,6 +1,8 @@
 // The order of maps (02, C-17): by N, then by their records as lists. What two images have in common is passed, and
 // what comes next in each decides. No list of records is kept.
 
+#![tactic(auto)]
+
 ghost use Rattle.std.specs.Prelude.{◌≡◌};
 ghost use Rattle.image.specs.Image.{accepted, station_count};
 ghost use Rattle.whole.specs.Check.{whole_check};

@@ -7,6 +7,8 @@
 // behind the other, and its calls. A call is the offset and the length of the first image and of the second (four u32),
 // the number of its changes (u8), and the changes. It prints one line.
 
+#![tactic(auto)]
+
 mod answers;
 
 use answers::print_answer;

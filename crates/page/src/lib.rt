@@ -1,5 +1,7 @@
 // The page reader (01, "Map image"). What lies above works with a page's content, laid out as rows of moves.
 
+#![tactic(auto)]
+
 ghost use Rattle.std.specs.Prelude.{◌≡◌, List, length};
 ghost use Rattle.layout.specs.Places.{Placed};
 ghost use Rattle.commands.specs.declared.Move.{Move};

@@ -6,6 +6,8 @@
 // Kind 2 then gives each byte of the image all 256 values in turn, and prints the whole check's answers, a line for
 // each offset.
 
+#![tactic(auto)]
+
 ghost use Rattle.layout.specs.Places.{Placed};
 
 use image::bytes::{byte_at, word_at};

@@ -1,6 +1,8 @@
 // The panel of the crane cabin (02, C-12): the least time from a source to one station, for a strip of a length, as the
 // DF search on tables of its own finds it; and this answer as one float.
 
+#![tactic(auto)]
+
 ghost use Rattle.std.specs.Prelude.{◌≡◌, ◌<◌};
 ghost use Rattle.image.specs.Image.{accepted, refused, nowhere, station_count, heading_check, after_heading};
 ghost use Rattle.reply.specs.Reply.{asked};

@@ -5,6 +5,8 @@
 // station and the number of stations (four u16), the number of changes (u8), and the changes. It asks for one station
 // after the other and prints one line.
 
+#![tactic(auto)]
+
 mod floats;
 mod line;
 

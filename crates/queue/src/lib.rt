@@ -2,6 +2,8 @@
 // leaves, one for each page: the least key by which a station of the page waits. Entry 256 + g is group g, the least of
 // the 16 leaves from 16 * g on. A new `[NOBODY; QUEUE]` is the queue in which nobody waits. What a search cites of the
 // queue is in proofs/Groups.antt, of the least of some keys in proofs/Least.antt, of a key's parts in proofs/Keys.antt.
+#![tactic(auto)]
+
 ghost use Rattle.std.specs.Prelude.{◌≡◌, ◌-◌, ◌<◌, ◌≤◌, min, length, get_or, take, drop};
 ghost use Rattle.queue.specs.Keys.{least_in};
 ghost use Rattle.queue.specs.Queue.{Groups, Put, leaves_of};

@@ -1,6 +1,8 @@
 // Records to image and image to records (02, C-16), over a lent list of move records. The work is done on plain numbers
 // (crates listing and writing); here the list is passed once, record by record.
 
+#![tactic(auto)]
+
 ghost use Rattle.std.specs.Prelude.{◌≡◌, ◌≤◌, length};
 ghost use Rattle.roundtrip.specs.Records.{listing};
 ghost use Rattle.roundtrip.specs.Written.{writing};

@@ -13,6 +13,8 @@
 // buffer's length. The directory is at the front of the bytes; a record is from, target, time and limit, four u16.
 // Where an image is written, it is then read.
 
+#![tactic(auto)]
+
 mod answers;
 mod reader;
 mod rounds;

@@ -1,6 +1,8 @@
 // One reference of a search: the page of the station that is first of those that wait is listed, fetched and worked on.
 // Between references the working memory stands for a state of the net's run (specs/Standing.antt).
 
+#![tactic(auto)]
+
 ghost use Rattle.std.specs.Prelude.{◌≡◌};
 ghost use Rattle.image.specs.Image.{heading_check, accepted};
 ghost use Rattle.cells.specs.Cells.{memory};

@@ -1,6 +1,8 @@
 // The moves of a station relaxed on a search's working memory (01, "The two searches"): its cells, its waiting keys and
 // its queue of pages, on which crates/cells relaxes one move. Where a station's slot, page and row stand is read from
 // two lent tables, the places and the layout. A row is a time times 2048, plus a station.
+#![tactic(auto)]
+
 ghost use Rattle.std.specs.Prelude.{◌≡◌, ◌+◌, ◌/◌, ◌<◌, ◌≤◌, length, get_or};
 ghost use Rattle.layout.specs.Rows.{row_of};
 ghost use Rattle.cells.specs.Cells.{memory, most_cost, Room, PlacedAt};

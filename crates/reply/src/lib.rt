@@ -1,6 +1,8 @@
 // What a search replies to its caller: refusals 1 to 7, and on a map that they let pass what the engine's search found,
 // written into the lent tables.
 
+#![tactic(auto)]
+
 ghost use Rattle.std.specs.Prelude.{◌≡◌, ◌||◌, ltb};
 ghost use Rattle.net.specs.Run.{search_of};
 ghost use Rattle.image.specs.Image.{accepted, outcome_of};

@@ -1,6 +1,8 @@
 // The route to a station by the predecessors that a search left (01, "Route, whole check, program"). The chain of
 // predecessors is followed twice: once to count its stations, so that a refusal has written nothing, and once to write
 // them from the last place back to the first.
+#![tactic(auto)]
+
 ghost use Rattle.std.specs.Prelude.{◌≡◌, ◌≤◌, length};
 ghost use Rattle.common.specs.Chains.{pred_at};
 ghost use Rattle.route.specs.Route.{chain, stations_of, written_to, returned, route_call};

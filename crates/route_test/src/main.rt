@@ -2,6 +2,8 @@
 // predecessors, the station and the output's length, each a u16, little-endian. Before a call every entry of the output
 // is the same number, so that the whole output, printed behind the answer, shows which entries were written.
 // tests/make_route_cases.py writes the cases and, by rules of its own, the text that this program must print.
+#![tactic(auto)]
+
 use libc::{STDIN_FILENO, STDOUT_FILENO};
 use route::RouteAnswer;
 

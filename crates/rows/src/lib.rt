@@ -1,5 +1,7 @@
 // The rows of a page: a station's row begun, and a move laid out in it, if it is open to the strip.
 
+#![tactic(auto)]
+
 ghost use Rattle.std.specs.Prelude.{◌≡◌, ◌+◌, ◌<◌, length, set, leb};
 ghost use Rattle.common.specs.Pick.{pick};
 ghost use Rattle.layout.specs.Rows.{entry_of};

@@ -1,6 +1,8 @@
 // The rules at one command of a page (01, "Map image"), by its kind: each gives the command itself, or the number of
 // its fault. Only this crate and commands, which reads a command, look at the bytes of a page.
 
+#![tactic(auto)]
+
 ghost use Rattle.std.specs.Prelude.{◌≡◌, ℕ, ◌≤◌, length, drop};
 ghost use Rattle.layout.specs.Places.{Placed};
 ghost use Rattle.layout.specs.Due.{OnPage};

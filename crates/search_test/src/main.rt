@@ -6,6 +6,8 @@
 // lengths of times, moves, predecessors, marks and page list (seven u16), the number of changes (u8), and the changes.
 // It runs the plain search and then the DF search.
 
+#![tactic(auto)]
+
 use cases_io::{BYTES, Map, after_call, change_bytes, print_number, read_map};
 use image::bytes::word_at;
 use libc::{STDIN_FILENO, STDOUT_FILENO};

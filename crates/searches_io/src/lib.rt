@@ -1,6 +1,8 @@
 // A call of search_test: one search on tables of the lengths that the call asks for, and the text of all that it handed
 // back, its answer and every entry of the five tables.
 
+#![tactic(auto)]
+
 mod answers;
 
 use answers::print_answer;

@@ -1,6 +1,8 @@
 // The store's replay (02, C-20): how many pages a store of some frames reads for a recorded page list, where at a miss
 // the least recently used far page leaves (paging/specs/Store.antt).
 
+#![tactic(auto)]
+
 ghost use Rattle.std.specs.Prelude.{◌≡◌, [], ◌≤◌, ◌<◌, length};
 ghost use Rattle.paging.specs.Store.{reads_from};
 ghost use Rattle.paging.specs.Promises.{ReplayPromised};

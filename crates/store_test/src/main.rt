@@ -6,6 +6,8 @@
 // entries of a table are 0. A call is the offset and the length of the list and of the table (four u32, lengths in
 // entries), P and F (two u64), D (u32), the number of its changes (u8), and the changes. It prints one line.
 
+#![tactic(auto)]
+
 ghost use Rattle.std.specs.Prelude.{◌≤◌, length};
 
 use cases_io::{Map, after_call, change_bytes, long_at, print_number, read_map};

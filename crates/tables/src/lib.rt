@@ -1,6 +1,8 @@
 // The tables that a search is lent, written at its end: the times, moves and predecessors that the engine leaves in
 // cells, and the marks, in windows that have an entry for each station.
 
+#![tactic(auto)]
+
 ghost use Rattle.std.specs.Prelude.{◌≡◌, ◌≤◌, ◌<◌, length, set, ltb};
 ghost use Rattle.common.specs.Costs.{time_in, moves_in, no_cost};
 ghost use Rattle.net.specs.Net.{one};

@@ -2,6 +2,8 @@
 // `0 4 187*5`. A table of more than 64 runs is printed as its length, a digest of all its entries, and its last run. So
 // an entry that a search ought to keep shows if it was written.
 
+#![tactic(auto)]
+
 ghost use Rattle.std.specs.Prelude.{◌≤◌};
 
 use cases_io::print_number;

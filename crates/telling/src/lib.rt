@@ -1,5 +1,7 @@
 // What the C interface tells its caller: of each answer but the panel's, which is one float, a status and four numbers.
 
+#![tactic(auto)]
+
 pub mod answers;
 
 // A call's status and its four numbers. `place` is the page or, for refusal 5, the station; for refusal 19 it is the

@@ -1,5 +1,7 @@
 // Text and decimal numbers put into a line.
 
+#![tactic(auto)]
+
 ghost use Rattle.std.specs.Prelude.{◌≡◌, ◌++◌, ◌+◌, ◌%◌, ◌≤◌, length, drop};
 ghost use Rattle.common.specs.Window.{placed};
 ghost use Rattle.text.specs.Text.{decimal};

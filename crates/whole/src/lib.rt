@@ -1,5 +1,7 @@
 // The whole check of an image (01, "Route, whole check, program"): 1 to 5, and then the pages by rising number.
 
+#![tactic(auto)]
+
 ghost use Rattle.std.specs.Prelude.{◌≡◌, ◌≤◌};
 ghost use Rattle.image.specs.Image.{station_count, page_count, outcome_of};
 ghost use Rattle.whole.specs.Check.{pages_from, whole_check};

@@ -1,6 +1,8 @@
 // A page in hand is worked on: its station of least waiting key is visited, in the DF search until none waits there, in
 // the plain search once.
 
+#![tactic(auto)]
+
 ghost use Rattle.std.specs.Prelude.{◌≡◌, ◌%◌, ◌<◌};
 ghost use Rattle.common.specs.Numbers.{nobody};
 ghost use Rattle.cells.specs.Cells.{memory};

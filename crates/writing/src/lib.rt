@@ -1,6 +1,8 @@
 // The writer's work on plain numbers (02, C-16): a record taken into memory (taking.rt), the bytes that the pages need
 // (pages.rt), and the image written of what was taken. No list of records is seen here.
 
+#![tactic(auto)]
+
 ghost use Rattle.std.specs.Prelude.{◌≡◌, List, ◌<◌, length};
 ghost use Rattle.image.specs.Image.{outcome_of};
 ghost use Rattle.move_record.specs.declared.MoveRecord.{MoveRecord};

@@ -5,6 +5,8 @@
 // alone has no numbers: its answer is one float (panel/specs/Panel.antt, `outside`). The map writer's two calls stand
 // in writer.rt. Of the order of maps only the naming call is exported: the other hands back a slice.
 
+#![tactic(auto)]
+
 ghost use Rattle.std.specs.Prelude.{◌≡◌};
 ghost use Rattle.net.specs.Search.{plain_search, df_search};
 ghost use Rattle.whole.specs.Check.{whole_check};

@@ -1,5 +1,0 @@
-pub mod Numbers
-pub mod Costs
-pub mod Chains
-pub mod Pick
-pub mod Window

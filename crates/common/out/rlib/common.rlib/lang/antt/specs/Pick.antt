@@ -1,6 +1,0 @@
--- One of two values, by a test: the first where it is true.
-use Rattle.std.specs.Prelude.{Bool, true, false}
-
-abbrev pub pick : {A : Type 0} → Bool → A → A → A
-pick true a b = a
-pick false a b = b
