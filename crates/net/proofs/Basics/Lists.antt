@@ -25,6 +25,7 @@ times_in-one_more p q (x ∷ l) = omega (arith, times_in-one_more p q l)
 -- whatever stands in a list stands there at least once
 pub listed_counts : (p : ℕ) (l : List ℕ) → Memᴰ p l → 0 < times_in p l
 unfolding times_in
+listed_counts p [] none = elim none [ ]
 listed_counts p (q ∷ l) (Memᴰ-head e) = rw (eq-eqb p q e) (omega arith)
 listed_counts p (q ∷ l) (Memᴰ-tail m) = omega (arith, listed_counts p l m)
 

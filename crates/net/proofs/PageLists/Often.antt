@@ -23,6 +23,7 @@ use Rattle.net.proofs.PageLists.Entries.{From, Enters, Entered, start_entered, d
 -- whatever move is offered is counted
 moves_count : (v w : ℕ) (moves : List Move) → Memᴰ (record { target = v; time = w }) moves → 0 < moves_to v moves
 unfolding moves_to
+moves_count v w [] none = elim none [ ]
 moves_count v w (m ∷ moves) (Memᴰ-head e) = rw (eq-eqb v m.target (ap (λ n. n.target) e)) (omega arith)
 moves_count v w (m ∷ moves) (Memᴰ-tail k) = omega (arith, moves_count v w moves k)
 
