@@ -19,7 +19,7 @@ use move_record::MoveRecord;
 pub const PAGES: usize = 256;
 
 // A station's next move, with the offset behind it; or that the station has no more.
-#[derive(Drop)]
+#[derive(Clone, Copy)]
 pub enum NextMove {
     Found(Move, usize),
     Over,
@@ -51,7 +51,7 @@ pub fn record_for(u: u16, m: Move) -> MoveRecord
 }
 
 // The next record of an image, or that there are no more.
-#[derive(Drop)]
+#[derive(Clone, Copy)]
 pub enum NextRecord {
     Found(MoveRecord),
     Over,

@@ -15,7 +15,7 @@ pub const BYTES: usize = 70000;
 
 // The map at hand: its image, of this size, is at the front of the space, and so many of its calls come next. Where
 // there are none, the input has ended.
-#[derive(Drop)]
+#[derive(Clone, Copy)]
 pub struct Map {
     pub size: u32,
     pub calls: u16,

@@ -15,7 +15,7 @@ pub const FILE: usize = 63493;
 pub const RECORD: usize = 8;
 
 // What a turn left: so many bytes to print at the front of the line's buffer, and whether another turn follows.
-#[derive(Drop)]
+#[derive(Clone, Copy)]
 pub struct Turn {
     pub size: usize,
     pub more: bool,

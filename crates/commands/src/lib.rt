@@ -9,7 +9,7 @@ ghost use Rattle.commands.specs.Commands.{length_of, move_with, command_at};
 use image::bytes::word_within;
 
 // A move of a page: command `02` or `03`. The limit is the longest strip that it takes, in decimetres; 0 is no limit.
-#[derive(Drop)]
+#[derive(Clone, Copy)]
 pub struct Move {
     pub target: u16,
     pub time: u16,
@@ -18,7 +18,7 @@ pub struct Move {
 
 // The command at an offset of a page, or the number of its fault. A station is an index: docs/DECISIONS.md says why,
 // under "C-11: a move that lacks its limit".
-#[derive(Drop)]
+#[derive(Clone, Copy)]
 pub enum Command {
     End,
     Station(usize),

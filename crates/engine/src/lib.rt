@@ -21,7 +21,7 @@ use queue::QUEUE;
 use reference::{Query, Reference, refer};
 
 // How a search ended: with nobody left to wait, or by a bad page; and the number of references made.
-#[derive(Drop)]
+#[derive(Clone, Copy)]
 pub enum Ended {
     Over {
         count: usize,

@@ -12,7 +12,7 @@ pub mod bytes;
 use bytes::{greatest, part_of, word_at};
 
 // The place that a refusal names.
-#[derive(Drop)]
+#[derive(Clone, Copy)]
 pub enum Place {
     Nowhere,
     AtStation(u16),
@@ -20,14 +20,14 @@ pub enum Place {
 }
 
 // A refusal: document 01's number, and its place.
-#[derive(Drop)]
+#[derive(Clone, Copy)]
 pub struct Refusal {
     pub number: u8,
     pub place: Place,
 }
 
 // What a check of an image found: all good, or its first refusal.
-#[derive(Drop)]
+#[derive(Clone, Copy)]
 pub enum Checked {
     Whole,
     Refused(Refusal),

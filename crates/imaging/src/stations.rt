@@ -22,7 +22,7 @@ const PAGES: usize = 256;
 const PAGE: usize = 256;
 
 // What comes behind a station that was written: the next record, and the offset behind its bytes.
-#[derive(Drop)]
+#[derive(Clone, Copy)]
 pub struct Behind {
     pub next: usize,
     pub at: usize,

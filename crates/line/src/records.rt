@@ -5,7 +5,7 @@ ghost use Rattle.line.specs.Line.{long, coil_of, length_of, station_of};
 
 use image::bytes::word_at;
 
-#[derive(Drop)]
+#[derive(Clone, Copy)]
 pub struct Record {
     pub coil: u32,
     // In decimetres.

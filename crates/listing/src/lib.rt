@@ -18,7 +18,7 @@ use move_record::kept::keep_record;
 use whole::check;
 
 // What the reader answers: how many records the image has; or that it is refused by the whole check, or by 7.
-#[derive(Drop)]
+#[derive(Clone, Copy)]
 pub enum ReadAnswer {
     Listed(usize),
     Refused(Refusal),
@@ -35,7 +35,7 @@ pub fn count_in(answer: ReadAnswer) -> usize
 }
 
 // How far the records are kept: the offset behind the moves that were passed, and the number of records.
-#[derive(Drop)]
+#[derive(Clone, Copy)]
 struct Passed {
     at: usize,
     count: usize,

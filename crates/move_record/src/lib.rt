@@ -12,7 +12,7 @@ pub mod kept;
 // A move of the map: from and target are stations, the time is in tenths of a second, and the limit is the longest
 // strip that the move takes, in decimetres, or 0 where it has none. In C it is four numbers of 16 bits in this order.
 #[repr(C)]
-#[derive(Drop)]
+#[derive(Clone, Copy)]
 pub struct MoveRecord {
     pub from: u16,
     pub target: u16,

@@ -4,7 +4,7 @@
 #![tactic(auto)]
 
 // What is chosen from a number of stations: one of them, or nobody where none qualifies.
-#[derive(Drop)]
+#[derive(Clone, Copy)]
 pub enum Choice {
     Station(usize),
     Nobody,

@@ -22,7 +22,7 @@ use passing::pass_stations;
 use whole::check;
 
 // How the first of two stands to the second.
-#[derive(Drop)]
+#[derive(Clone, Copy)]
 pub enum Comparison {
     FirstLess,
     Equal,
@@ -30,7 +30,7 @@ pub enum Comparison {
 }
 
 // What the naming call answers: the order of two maps, or which image is refused by the whole check.
-#[derive(Drop)]
+#[derive(Clone, Copy)]
 pub enum OrderAnswer {
     Ordered(Comparison),
     FirstRefused(Refusal),

@@ -13,7 +13,7 @@ use commands::{Move, STATION, length_of};
 use image::{directory_of, page_of};
 
 // How a station goes on in two images: with a move that both have, and the offsets behind it; not alike; or not at all.
-#[derive(Drop)]
+#[derive(Clone, Copy)]
 enum Step {
     On(usize, usize),
     Parted,
@@ -53,7 +53,7 @@ fn next_step(first: NextMove, second: NextMove) -> Step
 }
 
 // How far the moves of a station were passed on its page in either image, and whether both have no more.
-#[derive(Drop)]
+#[derive(Clone, Copy)]
 struct Passed {
     first: usize,
     second: usize,

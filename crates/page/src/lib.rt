@@ -15,7 +15,7 @@ use image::{directory_of, page_of};
 use reader::read_page;
 
 // What reading a page found: all good, or the first command at fault.
-#[derive(Drop)]
+#[derive(Clone, Copy)]
 pub enum Verdict {
     Good,
     Bad { number: u8, offset: usize },

@@ -15,7 +15,7 @@ use reply::Answer;
 use search::own::{TABLE, df_times};
 
 // The answer inside: the time in tenths of a second as a float, no route, or the refusal's number.
-#[derive(Drop)]
+#[derive(Clone, Copy)]
 pub enum Shown {
     Tenths(f64),
     NoRoute,

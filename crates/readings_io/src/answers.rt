@@ -15,7 +15,7 @@ const UNNAMED: usize = 65535;
 const LONGEST_STRIP: u16 = 65535;
 
 // A refusal's number, 0 where all is good, and its place.
-#[derive(Drop)]
+#[derive(Clone, Copy)]
 pub struct Answer {
     pub number: usize,
     pub station: usize,

@@ -5,7 +5,7 @@ use super::answers::{Answer, print, same};
 use libc::STDOUT_FILENO;
 
 // The numbers from `from` to `to`, which all have the same answer.
-#[derive(Drop)]
+#[derive(Clone, Copy)]
 pub struct Run {
     pub from: u8,
     pub to: u8,

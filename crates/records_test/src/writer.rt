@@ -10,7 +10,7 @@ use writing::finish;
 use writing::taking::{MEMORY, take};
 
 // What is to be written: N, P and the number of records.
-#[derive(Drop)]
+#[derive(Clone, Copy)]
 pub struct Drawing {
     pub size: u16,
     pub pages: u16,

@@ -21,7 +21,7 @@ use queue::top;
 use work::{station_of, work_page};
 
 // What a search is asked: DF or plain, from where, and for a strip of which length, in decimetres.
-#[derive(Drop)]
+#[derive(Clone, Copy)]
 pub struct Query {
     pub df: bool,
     pub source: u16,
@@ -29,7 +29,7 @@ pub struct Query {
 }
 
 // What a reference came to: nobody was waiting, a page was referred to and worked on, or it was bad.
-#[derive(Drop)]
+#[derive(Clone, Copy)]
 pub enum Reference {
     NobodyWaits,
     Made(u8),

@@ -19,7 +19,7 @@ use tables::finish;
 
 // What a search answers: the number of entries of the page list, with the number of stations reached or the refusal. At
 // 1 to 7 the list has no entry; at a page refusal the bad page is its last.
-#[derive(Drop)]
+#[derive(Clone, Copy)]
 pub enum Answer {
     Accepted { count: usize, reached: usize },
     Refused { refusal: Refusal, count: usize },

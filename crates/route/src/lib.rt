@@ -13,7 +13,7 @@ use common::{NO_PRED, SOURCE};
 const MOST: usize = 2048;
 
 // What a call answers: how many stations it wrote, that no route leads to the station, or the refusal's number.
-#[derive(Drop)]
+#[derive(Clone, Copy)]
 pub enum RouteAnswer {
     Found(usize),
     NoRoute,

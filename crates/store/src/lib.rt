@@ -24,7 +24,7 @@ const FRAMES: usize = 64;
 const NAMED: usize = 256;
 
 // What the call answers: the number of reads, or a refusal's number.
-#[derive(Drop)]
+#[derive(Clone, Copy)]
 pub enum ReplayAnswer {
     Reads(usize),
     Refused(u8),

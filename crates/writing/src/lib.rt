@@ -21,7 +21,7 @@ use pages::first_full;
 
 // What the writer answers: written; or refused by 2 to 5, by 19 with the index of the first record at fault, or by 20
 // with the lowest page that needs more than 256 bytes.
-#[derive(Drop)]
+#[derive(Clone, Copy)]
 pub enum WriteAnswer {
     Written,
     Refused(Refusal),

@@ -3,11 +3,14 @@ use Rattle.image.proofs.Scans.{not_below_from, not_below_here, not_below_onward,
 use Rattle.image.proofs.first_not_below.Goals as goal
 
 pub returns-then-greatest-limit : goal.returns-then-greatest-limit
-returns-then-greatest-limit c = sym (all-below _ _ _ c.if-greatest-limit.true c.greatest.ensures.most)
+returns-then-greatest-limit c = record {
+      value = sym (all-below _ _ _ c.if-greatest-limit.true c.greatest.ensures.most);
+    }
 
 pub returns-then-limit-directory : goal.returns-then-limit-directory
-returns-then-limit-directory c =
-    sym (not_below_here _ _ _ c.loop-i-test.true c.if-limit-directory.true) ∙ c.loop-i.invariant ∙ zero-add _
+returns-then-limit-directory c = record {
+      value = sym (not_below_here _ _ _ c.loop-i-test.true c.if-limit-directory.true) ∙ c.loop-i.invariant ∙ zero-add _;
+    }
 
 pub loop-i-preserved : goal.loop-i-preserved
 loop-i-preserved c =

@@ -12,5 +12,5 @@ loop-i-preserved c =
 
 pub returns : goal.returns
 returns c = record {
-      value = sym (zero_end c.args.s.c.loop-i.sum.now c.loop-i.i c.loop-i-test.false) ∙ c.loop-i.invariant.0;
+      value = sym (zero_end c.args.s.now c.loop-i.sum c.loop-i.i c.loop-i-test.false) ∙ c.loop-i.invariant.0;
     }
