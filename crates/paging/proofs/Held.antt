@@ -21,6 +21,7 @@ held_member p (q ∷ held) e = ⊎_elim
 
 pub member_held : (p : ℕ) (held : List ℕ) → Memᴰ p held → holds p held ≡ true
 unfolding holds
+member_held p [] x' = elim x' [ ]
 member_held p (q ∷ held) (Memᴰ-head e) = or_left (eqb p q) (holds p held) (eq-eqb p q e)
 member_held p (q ∷ held) (Memᴰ-tail m) = or_right (eqb p q) (holds p held) (member_held p held m)
 
@@ -57,6 +58,7 @@ pub without-length : (p : ℕ) (held : List ℕ) → holds p held ≡ true → s
 without-length p held e = by_member held (held_member p held e)
   where
     by_member : (l : List ℕ) → Memᴰ p l → suc (length (without p l)) ≡ length l
+    by_member [] m = elim m [ ]
     by_member (q ∷ l) m = dite (ℕ_discrete p q)
         (λ same. rw (without_first p q l same))
         (λ other. rw (without_later p q l other)
@@ -64,6 +66,7 @@ without-length p held e = by_member held (held_member p held e)
 
 -- The other pages stay.
 pub others_stay : (p : ℕ) (held : List ℕ) (q : ℕ) → (q ≡ p → ⊥) → Memᴰ q held → Memᴰ q (without p held)
+others_stay p [] q other m = elim m [ ]
 others_stay p (r ∷ held) q other m = dite (ℕ_discrete p r)
     (λ same. rw (without_first p r held same)
     (⊎_elim (λ here. absurd (other (here ∙ sym same))) (λ later. later) (Memᴰ-cases_cons m)))
@@ -96,6 +99,7 @@ pub without_other : (p : ℕ) {small large : List ℕ} → holds p small ≡ fal
 without_other p {small} not_held part = rw (without_none p small not_held) at (without_both p part)
 
 pub part_member : {x : ℕ} {l m : List ℕ} → Sublistᴰ l m → Memᴰ x l → Memᴰ x m
+part_member Sublistᴰ-slnil k = elim k [ ]
 part_member (Sublistᴰ-cons h) k = Memᴰ-tail (part_member h k)
 part_member (Sublistᴰ-cons_cons e h) (Memᴰ-head f) = Memᴰ-head (f ∙ e)
 part_member (Sublistᴰ-cons_cons e h) (Memᴰ-tail k) = Memᴰ-tail (part_member h k)

@@ -119,8 +119,11 @@ module _ (pages : ℕ) (distances : List ℕ) (threshold : ℕ) where
         → reads_from pages distances threshold more large list ≤ reads_from pages distances threshold frames small list
     unfolding reads_from
     within_reads within [] = omega arith
-    within_reads within (p ∷ list) =
-        omega (arith, miss_too p within.part, within_reads (within_after p within) list)
+    within_reads {small = small} {large = large} within (p ∷ list) =
+        let later =
+        within_reads {small = after_reference pages distances threshold frames p small}
+        {large = after_reference pages distances threshold more p large} (within_after p within) list in
+        omega (arith, miss_too p within.part, later)
 
     pub more_frames_read_no_more : (list : List ℕ)
         → reads_from pages distances threshold more [] list ≤ reads_from pages distances threshold frames [] list

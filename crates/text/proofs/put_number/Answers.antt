@@ -8,13 +8,13 @@ use Rattle.text.proofs.put_number.Goals as goal
 
 pub returns : goal.returns
 returns c =
-    let line = c.args.line.now in
-    let name = c.args.name.now in
+    let line = now c.args.line in
+    let name = now c.args.name in
     let digits = decimal c.args.n in
     let put =
     placed_by_two line c.put_text-behind.new.line c.put_text.new.line name _ digits c.args.at c.put_text-behind.result
-    c.put_text.result (omega (arith, c.requires.room)) c.put_text-behind.ensures c.put_text.ensures
-    (from_first c.spell-from.new.text.1.0 digits c.spell-from.result c.spell-from.auto.text.1.0
+    c.put_text.result (omega (arith, c.requires.room)) (c.put_text-behind.ensures.put, c.put_text-behind.ensures.behind) (c.put_text.ensures.put, c.put_text.ensures.behind)
+    (from_first c.spell-from.new.text digits c.spell-from.result c.spell-from.auto.text
     c.spell-from.ensures.spelled) in record {
       put = put.0;
       behind = put.1;
