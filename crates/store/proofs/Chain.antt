@@ -28,6 +28,7 @@ module _ (older newer : List ℕ) where
   -- What a page is linked with: before it a page of the chain or a, behind it a page of the chain or b.
   pub before_it : (a : ℕ) (l : List ℕ) (b : ℕ) → Chain older newer a l b → (p : ℕ) → Memᴰ p l
       → Memᴰ (get_or newer p 0) (a ∷ l)
+  before_it a [] b c p m = elim m [ ]
   before_it a (y ∷ l) b c p m = ⊎_elim
       (λ here. Memᴰ-head (rw here c.0.1))
       (λ later. Memᴰ-tail (before_it y l b c.1 p later))
@@ -35,6 +36,7 @@ module _ (older newer : List ℕ) where
 
   pub behind_it : (a : ℕ) (l : List ℕ) (b : ℕ) → Chain older newer a l b → (p : ℕ) → Memᴰ p l
       → Memᴰ (get_or older p 0) l ⊎ (get_or older p 0 ≡ b)
+  behind_it a [] b c p m = elim m [ ]
   behind_it a (y ∷ []) b c p m = ⊎_elim
       (λ here. inr (rw here c.1.0)) (λ later. absurd (Memᴰ-not_nil later)) (Memᴰ-cases_cons m)
   behind_it a (y ∷ z ∷ l) b c p m = ⊎_elim
@@ -62,6 +64,7 @@ module _ (older newer : List ℕ) (b : ℕ) (room : b < length newer) where
       → (Memᴰ b l → ⊥) → Distinct l
       → Chain (set older (get_or newer p 0) (get_or older p 0)) (set newer (get_or older p 0) (get_or newer p 0)) a
       (without p l) b
+  taken_out a [] p c m inside entries out end distinct = elim m [ ]
   taken_out a (y ∷ l) p c m inside entries out end distinct =
       dite (ℕ_discrete p y)
       (λ same.

@@ -8,8 +8,8 @@ use Rattle.text.proofs.put_number.Goals as goal
 
 pub returns : goal.returns
 returns c =
-    let line = now c.args.line in
-    let name = now c.args.name in
+    let line = c.args.line.now in
+    let name = c.args.name.now in
     let digits = decimal c.args.n in
     let put =
     placed_by_two line c.put_text-behind.new.line c.put_text.new.line name _ digits c.args.at c.put_text-behind.result

@@ -6,5 +6,5 @@ use Rattle.text.proofs.put_text.Goals as goal
 pub loop-i-preserved : goal.loop-i-preserved
 loop-i-preserved c =
     let more =
-    paste_more (now c.args.line) c.args.at (now c.args.text) c.loop-i.line c.loop-i.i (search rules) (search rules) c.loop-i.invariant.1 in
+    paste_more c.args.line.now c.args.at c.args.text.now c.loop-i.line c.loop-i.i (search rules) (search rules) c.loop-i.invariant.1 in
     (search rules, more, search rules)
