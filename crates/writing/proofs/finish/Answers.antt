@@ -74,7 +74,7 @@ write_image-requires c =
     (length c.args.image.now) (shape_accepted) (omega (arith, c.if-count-records.false))
     c.first_full-page.result c.first_full-page.ensures.page c.if-page-pages.false in
    
-    let ready = none_left in record {
+    let ready = none_left c.requires.taken.list c.requires.taken.all c.requires.taken.taken in record {
       memory = omega (arith, ready.few);
       shaped = ready.shaped;
       writable = ready.writable;
