@@ -2,11 +2,10 @@
     bench bench-peers bench-base help
 
 # Proves and builds the program coils and runs it on document 01's example and on a plate yard.
-run:
-	rt check coils
-	cd crates/coils/data && "$(CURDIR)/target/bin/coils" <../stdin | tee "$(CURDIR)/target/course.out"
+run: target/coils
+	cd crates/coils/data && "$(CURDIR)/target/coils" <../stdin | tee "$(CURDIR)/target/course.out"
 	cmp target/course.out crates/coils/stdout
-	cd examples/plate && "$(CURDIR)/target/bin/coils" <records | tee "$(CURDIR)/target/plate.out"
+	cd examples/plate && "$(CURDIR)/target/coils" <records | tee "$(CURDIR)/target/plate.out"
 	cmp target/plate.out examples/plate/expected
 	@echo 'Both examples came out as stored.'
 
@@ -36,26 +35,34 @@ layers:
 	@grep -nE '$(LOOKS)' $(SEE_NO_BYTES:%=crates/%/src/*.rt); test $$? = 1
 	@echo 'layers: no page bytes looked at in $(SEE_NO_BYTES)'
 
-# The kit's own C code, beside its guides.
-KIT_C = "$$(dirname "$$(rt doc)")/../lib/libos_c.a"
-
 # What a library is proved and built from.
-RATTLE := crates.txt $(shell find crates -name '*.rt' -o -name '*.antt')
+RATTLE := crates.txt $(shell find crates -name out -prune -o \( -name '*.rt' -o -name '*.antt' \) -print)
 LIBYARD := target/staticlib/libyard.a
 
 target/staticlib/lib%.a: $(RATTLE)
 	rt staticlib $*
 	touch $@
 
-# Builds target/coils, the program with an exit status (needs a C compiler).
+# Proves the program coils and builds it, as target/coils.
 coils: target/coils
 
-target/coils: host/coils.c target/staticlib/libcoils_io.a
-	$(CC) -std=c99 -Wall -Wextra -Werror -o $@ $^ $(KIT_C)
+# The kit builds a program only to run it. That run finds no map and gets no record, and its status says nothing.
+define COILS_BUILT_BY
+	rm -f crates/coils/out/coils
+	cd crates/coils && { rt run --backend $(1) </dev/null; test -x out/coils; }
+	mkdir -p $(@D)
+	cp crates/coils/out/coils $@
+endef
 
-# Runs both builds of coils from outside: maps and records of every kind, slow and closed streams (needs Python 3, C).
-coils-test: coils
-	rt check coils
+target/coils: $(RATTLE)
+	$(call COILS_BUILT_BY,llvm)
+
+# The program as the compiler that is written in Rattle builds it. One build at a time: both come from one folder.
+target/by-rattle/coils: $(RATTLE) | target/coils
+	$(call COILS_BUILT_BY,rattle)
+
+# Runs both builds of coils from outside: maps and records of every kind, slow and closed streams (needs Python 3).
+coils-test: target/coils target/by-rattle/coils
 	python3 tests/coils_outside.py
 
 # Proves the C interface and what is below it, and writes target/staticlib/libyard.a.

@@ -3,7 +3,7 @@ that they write, on standard error too, and their statuses.
 
     python3 tests/coils_outside.py    exit 1 on a difference
 
-target/bin/coils is built by the kit alone and has no status of its own; target/coils has one. The expected output comes
+target/coils is built by LLVM, target/by-rattle/coils by the compiler that is written in Rattle. The expected output comes
 from coils.py; where document 01 fixes a line, the case states it by hand too.
 """
 import contextlib
@@ -25,7 +25,9 @@ from make_search_cases import (M7, M7_LIMITED, WORKED_THROUGH, damaged, drawn, p
                                random_map)
 
 TARGET = Path(__file__).resolve().parent.parent / 'target'
-BY_THE_KIT, WITH_STATUS = TARGET / 'bin' / 'coils', TARGET / 'coils'
+BUILDS = TARGET / 'coils', TARGET / 'by-rattle' / 'coils'
+# The status of a run in which a read or a write failed.
+FAILED = 1
 FROM_0, FROM_7 = record(7, 8120, 0), record(8, 8120, 7)
 LINE_0, LINE_7 = b'coil 7 length 8120 from 0 pages 3 reached 7\n', b'coil 8 refused 6\n'
 
@@ -42,11 +44,6 @@ def yard(file):
 def started(build, folder, **streams):
     piped = dict.fromkeys(('stdin', 'stdout', 'stderr'), subprocess.PIPE)
     return subprocess.Popen([str(build)], cwd=folder, **{**piped, **streams})
-
-
-def failed(build):
-    """The status of a run in which a read or a write failed."""
-    return 1 if build == WITH_STATUS else 0
 
 
 def compare(label, found, wanted):
@@ -129,7 +126,7 @@ def run(build, label, file, data, wanted):
     with yard(file) as folder:
         program = started(build, folder)
         if file is None:
-            return ends(label, program, data, wanted, b'yard.map: No such file or directory\n', failed(build))
+            return ends(label, program, data, wanted, b'yard.map: No such file or directory\n', FAILED)
         return ends(label, program, data, wanted)
 
 
@@ -187,7 +184,7 @@ def run_folder(build):
     with yard(None) as folder:
         (Path(folder) / 'yard.map').mkdir()
         return ends('a folder for a map', started(build, folder), FROM_0, b'coil 7 refused 1\n',
-                    b'yard.map: Is a directory\n', failed(build))
+                    b'yard.map: Is a directory\n', FAILED)
 
 
 def run_streams(build):
@@ -199,22 +196,20 @@ def run_streams(build):
             ('a folder for the input', {'stdin': place}, b'standard input: Is a directory\n')]
     with yard(M7) as folder:
         results = [ends(label, started(build, folder, **streams), None if 'stdin' in streams else FROM_0, b'', err,
-                        failed(build)) for label, streams, err in rows]
+                        FAILED) for label, streams, err in rows]
     os.close(full)
     os.close(place)
     return results
 
 
 def run_reader_gone(build):
-    """A pipe that nobody reads: a write that fails, or for the kit's build the signal that ends it."""
+    """A pipe that nobody reads: a write that fails, and not a signal that ends the program."""
     reading, writing = os.pipe()
     os.close(reading)
     with yard(M7) as folder:
         program = started(build, folder, stdout=writing)
         os.close(writing)
-        if build == BY_THE_KIT:
-            return ends('a reader gone', program, FROM_0, b'', b'', -13)
-        return ends('a reader gone', program, FROM_0, b'', b'standard output: Broken pipe\n', 1)
+        return ends('a reader gone', program, FROM_0, b'', b'standard output: Broken pipe\n', FAILED)
 
 
 def run_broken_off(build):
@@ -229,7 +224,7 @@ def run_broken_off(build):
         good = compare('broken off, the record', seen(program, 20), LINE_0)
         os.close(theirs)
         return ends('broken off', program, None, b'short\n', b'standard input: Input/output error\n',
-                    failed(build)) and good
+                    FAILED) and good
 
 
 def run_input_not_ready(build):
@@ -268,7 +263,7 @@ def main():
              run_output_not_ready)
     made = cases()
     results = []
-    for build in (BY_THE_KIT, WITH_STATUS):
+    for build in BUILDS:
         results += [run(build, *case) for case in made] + [one(build) for one in alone] + run_streams(build)
     print(f'{len(results)} runs of coils, {results.count(False)} with a difference')
     sys.exit(1 if False in results else 0)

@@ -1,8 +1,14 @@
-// The program `coils`, as the kit alone builds and runs it. A Rattle program has no exit status; `host/coils.c` is the
-// same program with one.
+// The program `coils`.
 
 #![tactic(auto)]
 
-fn main() {
-    coils_io::coils_run();
+use std::process::ExitCode;
+
+// The exit status is the one that `coils_run` gives.
+fn main(rt: HostRuntime) -> ExitCode {
+    if coils_io::coils_run(&rt) == 0 {
+        ExitCode::SUCCESS
+    } else {
+        ExitCode::FAILURE
+    }
 }

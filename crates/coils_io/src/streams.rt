@@ -1,65 +1,69 @@
-// Reading and writing by C's `read` and `write`. A call that a signal cut off, or whose other side is not ready yet, is
+// Reading and writing by std's `read` and `write`. A call that a signal cut off, or whose other side is not ready yet, is
 // made again. A proved loop has to end, so calls are counted down, from a number that no run uses up.
 
 ghost use Rattle.std.specs.Prelude.{◌≤◌, length};
 
-// What reading left: so many bytes at the buffer's front, and whether a read failed.
+use std::io::{Error, ErrorKind};
+use std::{io, thread};
+
+// What reading left: so many bytes at the buffer's front, and why a read failed, if one did.
 #[derive(Drop)]
 pub struct Read {
     pub size: usize,
-    pub failed: bool,
+    pub failed: Option<Error>,
 }
 
-// Whether to call again after a call that answered so: not at the end of the input, and not after an error that lasts.
-fn goes_on(moved: isize) -> bool {
-    if moved > 0 {
+// Whether to call again after a call that failed so: not after an error that lasts.
+fn goes_on(error: &Error) -> bool {
+    if error.kind() == ErrorKind::WouldBlock {
+        thread::yield_now();
         return true;
     }
-    if moved == 0 {
-        return false;
-    }
-    let error = os::errno();
-    if error == libc::EAGAIN {
-        libc::sched_yield();
-        return true;
-    }
-    error == libc::EINTR
+    error.kind() == ErrorKind::Interrupted
 }
 
 // Reads until the buffer is full, the input ends or a read fails.
-pub fn read_full(file: i32, buffer: &mut [u8]) -> Read
+pub fn read_full<R: io::Read>(input: &mut R, buffer: &mut [u8]) -> Read
     ensures within { result.size ≤ length buffer.new }
 {
     let mut size = 0;
     let mut calls = u64::MAX;
     while calls > 0 && size < buffer.len() {
-        let moved = libc::read(file, &mut buffer[size..]);
-        if !goes_on(moved) {
-            return Read {
-                size,
-                failed: moved < 0,
-            };
+        match input.read(&mut buffer[size..]) {
+            Ok(0) => break,
+            Ok(moved) => size += moved,
+            Err(error) => {
+                if !goes_on(&error) {
+                    return Read {
+                        size,
+                        failed: Some(error),
+                    };
+                }
+            }
         }
-        size += io::count(moved, &buffer[size..]);
         calls -= 1;
     }
-    Read {
-        size,
-        failed: false,
-    }
+    Read { size, failed: None }
 }
 
-// Writes all bytes, and says whether it could.
-pub fn write_all(file: i32, bytes: &[u8]) -> bool {
+// Writes all bytes and flushes them, or answers why it couldn't.
+pub fn write_all<W: io::Write>(output: &mut W, bytes: &[u8]) -> io::Result<()> {
     let mut done = 0;
     let mut calls = u64::MAX;
     while calls > 0 && done < bytes.len() {
-        let moved = libc::write(file, &bytes[done..]);
-        if !goes_on(moved) {
-            return false;
+        match output.write(&bytes[done..]) {
+            Ok(0) => break,
+            Ok(moved) => done += moved,
+            Err(error) => {
+                if !goes_on(&error) {
+                    return Err(error);
+                }
+            }
         }
-        done += io::count(moved, &bytes[done..]);
         calls -= 1;
     }
-    done == bytes.len()
+    if done < bytes.len() {
+        return Err(Error::from(ErrorKind::WriteZero));
+    }
+    output.flush()
 }

@@ -2,6 +2,12 @@
 
 #![tactic(auto)]
 
-fn main() {
-    coils_io::coils_run();
+use std::process::ExitCode;
+
+fn main(rt: HostRuntime) -> ExitCode {
+    if coils_io::coils_run(&rt) == 0 {
+        ExitCode::SUCCESS
+    } else {
+        ExitCode::FAILURE
+    }
 }

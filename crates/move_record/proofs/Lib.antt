@@ -1,6 +1,3 @@
--- Laws that the crates above cite: records kept as plain numbers; and what walks by hand over lists of records share: a
--- slice lent again for a call, and a local array lent as a slice.
+-- Laws that the crates above cite: records kept as plain numbers.
 
 pub mod Keeping
-pub mod Again
-pub mod Local

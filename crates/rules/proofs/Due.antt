@@ -9,6 +9,12 @@ use Rattle.layout.proofs.Due.{due_is_next, next_is_due, due_has_next, due_none_l
 use Rattle.commands.specs.declared.Command.TheVariants.{Station, Fault}
 use Rattle.rules.specs.Rules.{first_on, next_on, judge_station, judge_end}
 
+-- behind an entry that is not the page's
+behind_other : (p d : ℕ) (ds : List ℕ) → d ≢ p → ((i : ℕ) → i < first_on p ds → get_or ds i 0 ≢ p)
+    → (i : ℕ) → i < suc (first_on p ds) → get_or (d ∷ ds) i 0 ≢ p
+behind_other p d ds other later zero h = other
+behind_other p d ds other later (suc i) h = later i (omega arith)
+
 -- the first entry of a page is the page's, and none before it is
 first-is : (p : ℕ) (ds : List ℕ)
     → ((i : ℕ) → i < first_on p ds → get_or ds i 0 ≢ p) × (first_on p ds < length ds → get_or ds (first_on p ds) 0 ≡ p)
@@ -19,7 +25,7 @@ first-is p (d ∷ ds) =
     dite (ℕ_discrete d p)
     (λ here. simp (eq-eqb d p here) (omega arith, λ h. here))
     (λ other. simp (ne_eqb d p other) (
-      λ i. elim i [ zero ↦ λ h. other | suc j ↦ λ h. later.0 j (omega arith) ],
+      behind_other p d ds other later.0,
       λ h. later.1 (omega arith),
     ))
 

@@ -12,8 +12,9 @@ returns-then-newer-p c = record {
 
 pub returns : goal.returns
 returns c =
-    let long = (put-first-requires-2 PLACE_After-put_first-arg4 c.put_first-2.lifetimes).0 in record {
-      referred = referred_read _ c.requires.table.few.1 _ _ _ _ _ _ _ c.requires.store.some c.requires.store.memory.0 c.requires.store.memory.1 _
-    c.requires.page c.if-newer-p.false long.0 long.1 c.make_room.ensures.room
-    c.put_first-2.ensures.older c.put_first-2.ensures.newer;
+    record {
+      referred = referred_read _ c.requires.table.few.1 _ _ _ _ _ _ _ c.requires.store.some
+          c.requires.store.memory.0 c.requires.store.memory.1 _ c.requires.page c.if-newer-p.false
+          (search rules) (search rules) c.make_room.ensures.room c.put_first-2.ensures.older
+          c.put_first-2.ensures.newer;
     }

@@ -12,19 +12,23 @@ pub is_far-requires : goal.is_far-requires
 is_far-requires c = record {
       table = c.requires.table;
       row = c.requires.full.row;
-      column = (let own : c.loop-left.p < c.args.pages = page_below c.pre.1.0.ring _ (c.loop-left.inv c.pre.1.0.held c.pre.1.0.older c.pre.1.0.ring c.pre.1.0.count)
-    c.loop-left-test.taken in own);
+      column = (let own : c.loop-left.p < c.args.pages = page_below c.requires.full.ring _ (c.loop-left.invariant c.requires.full.held c.requires.full.older c.requires.full.ring c.requires.full.count)
+    c.loop-left-test.true in own);
     }
 
 pub returns-then-is_far : goal.returns-then-is_far
-returns-then-is_far c = λ held older ring count is.  far_leaves _ _ _ is (c.loop-left.invariant held older ring count) c.loop-left-test.true
-    (sym c.is_far.ensures.value ∙ c.if-is_far.true)
+returns-then-is_far c = record {
+      leaves = λ held older ring count is.  far_leaves _ _ _ is (c.loop-left.invariant held older ring count) c.loop-left-test.true
+    (sym c.is_far.ensures.value ∙ c.if-is_far.true);
+    }
 
 pub loop-left-preserved : goal.loop-left-preserved
 loop-left-preserved c = λ held older ring count.  walked_on ring _ (c.loop-left.invariant held older ring count) c.loop-left-test.true
     (sym c.is_far.ensures.value ∙ c.if-is_far.false)
 
 pub returns : goal.returns
-returns c = λ held older ring count is.  back_from_end older c.args.newer.now 255 held 255 ring.chain ∙
+returns c = record {
+      leaves = λ held older ring count is.  back_from_end older c.args.newer.now 255 held 255 ring.chain ∙
     oldest_leaves _ _ _ is (c.loop-left.invariant held older ring count) c.loop-left-test.false
-    (omega (arith, count, c.requires.full.some))
+    (omega (arith, count, c.requires.full.some));
+    }

@@ -1,0 +1,16 @@
+-- The loop's invariant: the pages from p on decide as all the pages do, and the layout keeps its length. A page read as
+-- good hands on to the next one, and the first that is bad is the outcome (proofs/Pages.antt).
+use Rattle.common.proofs.Ground.{◌≡◌, refl, ap, sym, ◌∙◌, ◌-◌, arith, sub-zero, length}
+use Rattle.image.specs.Image.{page_count}
+use Rattle.whole.specs.Check.{pages_from}
+use Rattle.image.proofs.Parts.{directory_most}
+use Rattle.whole.proofs.Pages.{pages_step, pages_end}
+use Rattle.common.proofs.Ground.{rules}
+use Rattle.whole.proofs.check_pages.Given as goal
+
+abbrev pub invariant-loop-p : goal.invariant-loop-p
+invariant-loop-p l =
+    (pages_from l.image (l.pages - l.p) l.p ≡ pages_from l.image (page_count l.image) 0) × (length l.layout ≡ 17152)
+
+abbrev pub decreases-loop-p : goal.decreases-loop-p
+decreases-loop-p l = l.pages - l.p
