@@ -1,5 +1,5 @@
 -- Refusals 1 to 7: what a call that they do not refuse has, and that they name no page.
-use Rattle.common.proofs.Ground.{◌≡◌, refl, Bool, true, false, not, ◌||◌, List, ℕ}
+use Rattle.common.proofs.Ground.{◌≡◌, refl, Bool, true, false, ◌||◌, List, ℕ}
 use Rattle.common.proofs.Ground.{◌≤◌, ◌<◌, arith, length, ltb, leb, lt-leb, ltb-false, leb-false}
 use Rattle.common.specs.Pick.{pick}
 use Rattle.common.proofs.Cases.{never}
