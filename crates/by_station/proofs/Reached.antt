@@ -11,7 +11,7 @@ use Rattle.commands.proofs.Lengths.{Stands, stands}
 use Rattle.image.specs.Bytes.{Bytes}
 use Rattle.image.specs.Image.{directory_of, page_bytes}
 use Rattle.image.proofs.Parts.{bytes_page}
-use Rattle.page.specs.Reading.{good, Leaving, reading_of, moves_in}
+use Rattle.page.specs.Reading.{Leaving, reading_of, moves_in}
 use Rattle.page.specs.Good.{stations_from, names, code_of, spell_moves, spell_stations, spelled}
 use Rattle.page.proofs.Reading.Steps.{IsMove, unlimited, limited}
 use Rattle.page.proofs.Good.Promise.{promise}

@@ -1,5 +1,5 @@
 -- The parts of a map image (01, "Map image"), refusals 1 to 5, and what it means that two images agree.
-use Rattle.std.specs.Prelude.{◌≡◌, Bool, true, false, not, ◌||◌, List, [], ◌∷◌, ℕ, zero, suc, ◌+◌, ◌*◌, length, take, ltb, eqb}
+use Rattle.std.specs.Prelude.{◌≡◌, not, ◌||◌, List, [], ◌∷◌, ℕ, suc, ◌+◌, ◌*◌, length, take, ltb, eqb}
 use Rattle.common.specs.Pick.{pick}
 use Rattle.image.specs.declared.Checked.{Checked}
 use Rattle.image.specs.declared.Checked.TheVariants.{Whole, Refused}

@@ -1,5 +1,5 @@
 -- C-15: predecessors that meet demand 2 all lead to the source, whatever the search, and whatever time moves take.
-use Rattle.common.proofs.Ground.{◌≡◌, refl, ⊎_elim, dite, List, ℕ, ◌≤◌, ◌<◌, arith, ℕ_discrete, get_or-eq_default}
+use Rattle.common.proofs.Ground.{◌≡◌, refl, ⊎_elim, dite, List, ℕ, ◌≤◌, arith, ℕ_discrete, get_or-eq_default}
 use Rattle.common.proofs.Cases.{le-or-lt}
 use Rattle.common.specs.Numbers.{no_time, source_mark}
 use Rattle.common.specs.Chains.{pred_at, back, ChainsEnd}

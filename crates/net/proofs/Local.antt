@@ -7,7 +7,7 @@ use Rattle.net.specs.declared.Choice.{Choice}
 use Rattle.net.specs.declared.Choice.TheVariants.{Station, Nobody}
 use Rattle.net.specs.Net.{Move, Page, Frame}
 use Rattle.net.specs.Search.{State, is_fresh, settle, with_page, start, choose, on_choice, iter, on_page, read_for}
-use Rattle.net.specs.Search.{visit, plain_visit, df_visit, step_by, search_by}
+use Rattle.net.specs.Search.{plain_visit, df_visit, step_by, search_by}
 use Rattle.net.specs.Demands.{AgreeOn}
 use Rattle.net.proofs.Basics.Iterate.{iter_keeps}
 use Rattle.net.proofs.Relaxing.Log.{Quiet, plain_work, plain_quiet, df_work, df_quiet, read_lists, df_fresh}

@@ -9,7 +9,7 @@ use Rattle.common.proofs.Cases.{le-or-lt, never}
 use Rattle.common.proofs.Costs.{costs_order, numbers_order}
 use Rattle.common.specs.Numbers.{no_time}
 use Rattle.common.specs.Costs.{NoMore, cost, time_in, moves_in, no_cost}
-use Rattle.net.specs.Net.{Page, good, bad, Frame, is_good, moves_of, Walk, here, onward, count}
+use Rattle.net.specs.Net.{Page, good, bad, Frame, is_good, moves_of, Walk, here, onward}
 use Rattle.net.specs.Search.{State, Halt, going, refused, time_table, move_table, plain_search, df_search, reached}
 use Rattle.net.specs.Demands.{time_at, moves_at, LeastTimes, RefusedPage}
 use Rattle.net.specs.Ways.{Fits, LeastWalk, OneNumber}

@@ -1,5 +1,5 @@
 -- What a good page is (01, "A good page .."): its content, and the bytes that the content spells.
-use Rattle.std.specs.Prelude.{◌≡◌, List, [], ◌∷◌, ◌++◌, map, ℕ, zero, suc, ◌+◌, ◌/◌, ◌%◌, ◌≤◌, ◌<◌, length, replicate, eqb}
+use Rattle.std.specs.Prelude.{◌≡◌, List, [], ◌∷◌, map, ℕ, suc, ◌+◌, ◌/◌, ◌%◌, ◌≤◌, ◌<◌, length, replicate, eqb}
 use Rattle.common.specs.Pick.{pick}
 use Rattle.commands.specs.declared.Move.{Move}
 use Rattle.page.specs.Reading.{Leaving}

@@ -3,7 +3,7 @@
 use mathlib.Core.List.Memᴰ
 use Rattle.common.proofs.Ground.{◌≡◌, refl, ap, sym, List, [], ◌∷◌, ℕ, eqb, eqb-true, eqb-false, Memᴰ-head}
 use Rattle.common.proofs.Cases.{by_pick}
-use Rattle.net.specs.Net.{one, changes, one_page_reads}
+use Rattle.net.specs.Net.{changes, one_page_reads}
 use Rattle.net.proofs.Basics.Tests.{same_test}
 use Rattle.paging.specs.Store.{holds, leaving, after_reference, reads_from}
 use Rattle.paging.proofs.Held.{held_member, member_held, not_member_not_held, without_first}

@@ -3,7 +3,7 @@
 use Rattle.common.proofs.Ground.{List, ◌∷◌, Sublistᴰ, Sublistᴰ-refl, ℕ, ◌≤◌, ◌<◌, arith, length}
 use Rattle.common.proofs.Ground.{ltb, ltb-true, ltb-false}
 use Rattle.common.proofs.Cases.{by_pick}
-use Rattle.paging.specs.Store.{holds, without, leaving, after_miss, after_reference}
+use Rattle.paging.specs.Store.{holds, leaving, after_miss, after_reference}
 use Rattle.paging.proofs.Held.{Distinct, not_held_not_member, part_member, part_distinct, without-length}
 use Rattle.paging.proofs.Held.{without-part, without_gone}
 use Rattle.paging.proofs.Leaving.{leaving-length}

@@ -1,5 +1,5 @@
 -- A page is referred to: it comes first, whether it was held or room was made for it.
-use Rattle.common.proofs.Ground.{◌≡◌, ◌≢◌, refl, ◌∙◌, true, not, List, [], ◌∷◌, Memᴰ, ℕ, suc, ◌+◌}
+use Rattle.common.proofs.Ground.{◌≡◌, ◌≢◌, refl, ◌∙◌, true, List, [], ◌∷◌, Memᴰ, ℕ, suc, ◌+◌}
 use Rattle.common.proofs.Ground.{◌≤◌, ◌<◌, min, arith, length, get_or, set, length-set, ltb, ltb-true, ltb-false, lt-ltb}
 use Rattle.common.proofs.Ground.{le-ltb}
 use Rattle.common.proofs.Cases.{by_pick}

@@ -1,6 +1,6 @@
 -- What the call's tests say of the list and the distances, and how two tables link the pages that a store holds into a
 -- ring. For the code: nothing that is promised speaks of it.
-use Rattle.std.specs.Prelude.{◌≡◌, Bool, not, ◌&&◌, ℕ, suc, ◌+◌, ◌*◌, ◌≤◌, ◌<◌, min, length, get_or, ltb, eqb}
+use Rattle.std.specs.Prelude.{◌≡◌, Bool, not, ◌&&◌, ℕ, ◌+◌, ◌*◌, ◌≤◌, ◌<◌, min, length, get_or, ltb, eqb}
 use mathlib.Core.List.{List, [], ◌∷◌, Memᴰ}
 use Rattle.net.specs.Net.{one}
 use Rattle.image.specs.Image.{first_not_below}

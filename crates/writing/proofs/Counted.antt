@@ -12,7 +12,7 @@ use Rattle.move_record.specs.Kept.{kept_record, kept_from}
 use Rattle.roundtrip.specs.Written.{move_of, moves_for, is_move, is_above, rising_after, rising}
 use Rattle.roundtrip.proofs.Few.{bytes_for}
 use Rattle.roundtrip.proofs.Fit.{AllFit}
-use Rattle.writing.specs.Taking.{Taking, taking, latest, bytes_of, width_for, add_bytes, is_next, kept_with, taken}
+use Rattle.writing.specs.Taking.{Taking, taking, bytes_of, width_for, add_bytes, is_next, kept_with, taken}
 use Rattle.writing.specs.Taking.{taken_all}
 use Rattle.writing.proofs.Taken.{Next, next_decides, kept_length, kept_before, kept_bytes}
 use Rattle.writing.proofs.Taken.{kept_bytes_other, kept_from_lem, kept_target, kept_record_lem, taken_next, taken_other}

@@ -1,12 +1,8 @@
 -- The loop's invariant: whatever was left where the call began is left where the walk stands now
 -- (proofs/Standing.antt).
-use Rattle.common.proofs.Ground.{◌≡◌, ap, sym, ◌∙◌, List, ℕ, ◌-◌, ◌≤◌, ◌<◌, arith, length, length-set, get_or}
-use Rattle.image.specs.Image.{station_count, directory_of, page_bytes}
+use Rattle.common.proofs.Ground.{List, ◌-◌, length}
 use Rattle.move_record.specs.declared.MoveRecord.{MoveRecord}
-use Rattle.by_station.specs.Next.{next_move}
-use Rattle.by_station.specs.Standing.{Standing, page_at}
-use Rattle.by_station.proofs.Standing.{well-formed, page_small, offset_inside, standing_over}
-use Rattle.by_station.proofs.Standing.{standing_move, standing_next}
+use Rattle.by_station.specs.Standing.{Standing}
 use Rattle.by_station.proofs.next_record.Given as goal
 
 abbrev pub invariant-loop-u : goal.invariant-loop-u

@@ -9,13 +9,13 @@ use Rattle.commands.proofs.command_at.Goals as goal
 pub returns-then-page-at : goal.returns-then-page-at
 unfolding command_at
 returns-then-page-at c = record {
-      value = search tests;
-    }
+  value = search tests;
+}
 
 pub returns-then-fits : goal.returns-then-fits
 returns-then-fits c = record {
-      value = rw c.move_with.ensures.value (sym (command_move _ _ c.if-code-eq-MOVE.true ((let own : c.args.at + length_of 2 ≤ length c.args.page.now = leb-true _ _ (sym c.fits.ensures.value ∙ c.if-fits.true) in own))));
-    }
+  value = rw c.move_with.ensures.value (sym (command_move _ _ c.if-code-eq-MOVE.true ((let own : c.args.at + length_of 2 ≤ length c.args.page.now = leb-true _ _ (sym c.fits.ensures.value ∙ c.if-fits.true) in own))));
+}
 
 pub returns-then-code-eq-MOVE : goal.returns-then-code-eq-MOVE
 returns-then-code-eq-MOVE c =
@@ -25,9 +25,9 @@ returns-then-code-eq-MOVE c =
 
 pub returns-then-fits-2 : goal.returns-then-fits-2
 returns-then-fits-2 c = record {
-      value = rw c.word_within.ensures.value
-    (sym (command_station _ _ c.if-code-eq-STATION.true ((let own : c.args.at + length_of 1 ≤ length c.args.page.now = leb-true _ _ (sym c.fits-then-code-eq-STATION.ensures.value ∙ c.if-fits-2.true) in own))));
-    }
+  value = rw c.word_within.ensures.value
+      (sym (command_station _ _ c.if-code-eq-STATION.true ((let own : c.args.at + length_of 1 ≤ length c.args.page.now = leb-true _ _ (sym c.fits-then-code-eq-STATION.ensures.value ∙ c.if-fits-2.true) in own))));
+}
 
 pub returns-then-code-eq-STATION : goal.returns-then-code-eq-STATION
 returns-then-code-eq-STATION c =
@@ -37,14 +37,14 @@ returns-then-code-eq-STATION c =
 
 pub returns-then-code-lt-MOVE : goal.returns-then-code-lt-MOVE
 returns-then-code-lt-MOVE c = record {
-      value = sym (command_end _ _ (omega (arith, c.if-code-eq-STATION.false, c.if-code-lt-MOVE.true)) (omega (arith, c.if-page-at.false)));
-    }
+  value = sym (command_end _ _ (omega (arith, c.if-code-eq-STATION.false, c.if-code-lt-MOVE.true)) (omega (arith, c.if-page-at.false)));
+}
 
 pub returns-then-fits-3 : goal.returns-then-fits-3
 returns-then-fits-3 c = record {
-      value = rw (c.move_with-then-fits-3.ensures.value, c.word_within-limit.ensures.value)
-    (sym (command_limited _ _ c.if-code-eq-LIMITED.true ((let own : c.args.at + length_of 3 ≤ length c.args.page.now = leb-true _ _ (sym c.fits-then-code-eq-LIMITED.ensures.value ∙ c.if-fits-3.true) in own))));
-    }
+  value = rw (c.move_with-then-fits-3.ensures.value, c.word_within-limit.ensures.value)
+      (sym (command_limited _ _ c.if-code-eq-LIMITED.true ((let own : c.args.at + length_of 3 ≤ length c.args.page.now = leb-true _ _ (sym c.fits-then-code-eq-LIMITED.ensures.value ∙ c.if-fits-3.true) in own))));
+}
 
 pub returns-then-code-eq-LIMITED : goal.returns-then-code-eq-LIMITED
 returns-then-code-eq-LIMITED c =
@@ -54,5 +54,5 @@ returns-then-code-eq-LIMITED c =
 
 pub returns : goal.returns
 returns c = record {
-      value = sym (command_unknown _ _ c.if-page-at.false (omega (arith, c.if-code-eq-LIMITED.false, c.if-code-lt-MOVE.false, c.if-code-eq-MOVE.false)));
-    }
+  value = sym (command_unknown _ _ c.if-page-at.false (omega (arith, c.if-code-eq-LIMITED.false, c.if-code-lt-MOVE.false, c.if-code-eq-MOVE.false)));
+}

@@ -25,7 +25,7 @@ unfolding heading_check
 returns-then-outside-2 c =
     let N = station_count c.args.image.now in
     let stations : eqb N 0 || ltb 2048 N ≡ false =
-        rw (← c.station_count-stations.ensures.value) (sym c.outside.ensures.value ∙ c.if-outside.false) in
+    rw (← c.station_count-stations.ensures.value) (sym c.outside.ensures.value ∙ c.if-outside.false) in
     record {
       outcome = search (
         tests,
@@ -43,9 +43,9 @@ returns-then-image-stations c =
     let N = station_count c.args.image.now in
     let P = page_count c.args.image.now in
     let stations : eqb N 0 || ltb 2048 N ≡ false =
-        rw (← c.station_count-stations.ensures.value) (sym c.outside.ensures.value ∙ c.if-outside.false) in
+    rw (← c.station_count-stations.ensures.value) (sym c.outside.ensures.value ∙ c.if-outside.false) in
     let pages : eqb P 0 || ltb 240 P ≡ false =
-        rw (← c.page_count-pages.ensures.value) (sym c.outside-2.ensures.value ∙ c.if-outside-2.false) in
+    rw (← c.page_count-pages.ensures.value) (sym c.outside-2.ensures.value ∙ c.if-outside-2.false) in
     let other : length c.args.image.now ≢ 4 + N + 256 * P = omega arith in
     record { outcome = search (tests, c.refuse-then-image-stations.ensures.outcome, stations, pages) }
 
@@ -56,9 +56,9 @@ returns-then-station-stations c =
     let N = station_count c.args.image.now in
     let P = page_count c.args.image.now in
     let stations : eqb N 0 || ltb 2048 N ≡ false =
-        rw (← c.station_count-stations.ensures.value) (sym c.outside.ensures.value ∙ c.if-outside.false) in
+    rw (← c.station_count-stations.ensures.value) (sym c.outside.ensures.value ∙ c.if-outside.false) in
     let pages : eqb P 0 || ltb 240 P ≡ false =
-        rw (← c.page_count-pages.ensures.value) (sym c.outside-2.ensures.value ∙ c.if-outside-2.false) in
+    rw (← c.page_count-pages.ensures.value) (sym c.outside-2.ensures.value ∙ c.if-outside-2.false) in
     record {
       outcome = search (
         tests,
@@ -78,9 +78,9 @@ returns c =
     let N = station_count c.args.image.now in
     let P = page_count c.args.image.now in
     let stations : eqb N 0 || ltb 2048 N ≡ false =
-        rw (← c.station_count-stations.ensures.value) (sym c.outside.ensures.value ∙ c.if-outside.false) in
+    rw (← c.station_count-stations.ensures.value) (sym c.outside.ensures.value ∙ c.if-outside.false) in
     let pages : eqb P 0 || ltb 240 P ≡ false =
-        rw (← c.page_count-pages.ensures.value) (sym c.outside-2.ensures.value ∙ c.if-outside-2.false) in
+    rw (← c.page_count-pages.ensures.value) (sym c.outside-2.ensures.value ∙ c.if-outside-2.false) in
     record {
       outcome = search (
         tests,

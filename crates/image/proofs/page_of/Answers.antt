@@ -8,5 +8,5 @@ pub returns : goal.returns
 unfolding page_bytes
 returns c =
     let is : c.part_of.result.now ≡ page_bytes c.args.image.now c.args.p =
-        rw (← c.station_count.ensures.value) c.part_of.ensures.part in
+    rw (← c.station_count.ensures.value) c.part_of.ensures.part in
     record { part = is; short = rw is (page_short c.args.image.now c.args.p) }

@@ -13,7 +13,7 @@ returns-then-room-count c =
     let image_bytes : Bytes c.args.image.now = λ i. omega (arith, c.type_inv.image i) in
     record {
       found = found_short _ _ _ (image_bytes) (whole)
-    (rw c.keep_stations-count.ensures.count at c.if-room-count.true);
+          (rw c.keep_stations-count.ensures.count at c.if-room-count.true);
     }
 
 pub returns-else-room-count : goal.returns-else-room-count
@@ -22,10 +22,10 @@ returns-else-room-count c =
     let image_bytes : Bytes c.args.image.now = λ i. omega (arith, c.type_inv.image i) in
     record {
       found = found-listed _ _ _ (image_bytes) (whole) _ c.keep_stations-count.ensures.count
-    c.keep_stations-count.ensures.records c.if-room-count.false;
+          c.keep_stations-count.ensures.records c.if-room-count.false;
     }
 
 pub returns-in-Refused : goal.returns-in-Refused
 returns-in-Refused c = record {
-      found = found_refused _ _ _ _ (sym c.check.ensures.outcome ∙ ap outcome_of c.in-Refused.is);
-    }
+  found = found_refused _ _ _ _ (sym c.check.ensures.outcome ∙ ap outcome_of c.in-Refused.is);
+}

@@ -1,6 +1,6 @@
 -- Tests joined by `&&` and `||` taken apart and put together, and the cases of two numbers. Each is by the cases of
 -- its tests.
-use Rattle.common.proofs.Ground.{◌≡◌, refl, Bool, true, false, not, ◌&&◌, ◌||◌, ◌⊎◌, inl, inr, ℕ, suc, ◌≤◌, ◌<◌, arith}
+use Rattle.common.proofs.Ground.{◌≡◌, refl, Bool, true, false, not, ◌&&◌, ◌||◌, ◌⊎◌, inl, inr, ℕ, suc, ◌<◌, arith}
 use Rattle.common.proofs.Ground.{ltb, ltb-true, ltb-false}
 
 pub and_left : (a b : Bool) → a && b ≡ true → a ≡ true

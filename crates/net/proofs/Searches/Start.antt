@@ -1,7 +1,7 @@
 -- The start: only the source has a time, nothing is settled or fresh, and the invariant of either search holds. By
 -- reading tables with one entry set.
 use Rattle.common.proofs.Ground.{◌≡◌, refl, sym, ◌∙◌, Bool, false, true≢false, ◌≢◌, dite, ℕ, ◌<◌, arith, ℕ_discrete}
-use Rattle.common.proofs.Ground.{length, set, replicate, length-set, length-replicate, get_or-set_same, get_or-set_other}
+use Rattle.common.proofs.Ground.{length, replicate, length-set, length-replicate, get_or-set_same, get_or-set_other}
 use Rattle.common.specs.Numbers.{source_mark, no_pred}
 use Rattle.net.specs.Net.{Page, Frame, here}
 use Rattle.net.specs.Search.{State, mark_of, cost_of, pred_of, is_fresh, is_settled, start}

@@ -1,6 +1,6 @@
 -- Whom a search chooses to settle, and whom the page loop chooses to relax, said with costs and flags in place of
 -- tests. Both from what `least` finds; stations without a time need not be told apart from numbers past the tables.
-use Rattle.common.proofs.Ground.{◌≡◌, sym, ◌∙◌, ap, Bool, true, false, not, true≢false, ◌≢◌, ⊎_elim, dite, List, ℕ}
+use Rattle.common.proofs.Ground.{◌≡◌, sym, ◌∙◌, ap, Bool, true, false, true≢false, ◌≢◌, ⊎_elim, dite, List, ℕ}
 use Rattle.common.proofs.Ground.{◌≤◌, ◌<◌, arith, ℕ_discrete, lt-ltb, le-ltb, eq-eqb, ne_eqb}
 use Rattle.common.proofs.Cases.{le-or-lt}
 use Rattle.net.specs.declared.Choice.{Choice}

@@ -6,7 +6,7 @@ use Rattle.common.proofs.Ground.{◌+◌, ◌-◌, ◌≤◌, arith, ltb, eqb}
 use Rattle.net.specs.declared.Choice.{Choice}
 use Rattle.net.specs.declared.Choice.TheVariants.{Station, Nobody}
 use Rattle.net.specs.Net.{Move, Page, good, bad, Frame, count}
-use Rattle.net.specs.Search.{State, Halt, going, with_page, cost_of, pred_of, is_settled, settle, on_choice}
+use Rattle.net.specs.Search.{State, Halt, going, with_page, cost_of, pred_of, is_settled, on_choice}
 use Rattle.net.specs.Search.{iter, on_page, read_for, visit, choose_on, work_turn, plain_visit}
 use Rattle.net.specs.Run.{stop_waiting, turn_limit, first_waiting, first_on, visit_of, turn_of, page_work}
 use Rattle.net.specs.Run.{reference, step_run}

@@ -1,5 +1,4 @@
-use Rattle.common.proofs.Ground.{◌-◌}
-use Rattle.queue.proofs.Scan.{Scan, scan_start, scan_one, scan_four, scan-end}
+use Rattle.queue.proofs.Scan.{scan_start, scan_one, scan_four}
 use Rattle.queue.proofs.least_between.Goals as goal
 
 pub loop-i-init : goal.loop-i-init

@@ -1,6 +1,6 @@
 -- Both loops keep `Scan`: what was found so far is the least of the keys from `lo` up to i.
 use Rattle.common.proofs.Ground.{◌-◌}
-use Rattle.queue.proofs.Scan.{Scan, scan_start, scan_one, scan_four, scan-end}
+use Rattle.queue.proofs.Scan.{Scan}
 use Rattle.queue.proofs.least_between.Given as goal
 
 abbrev pub invariant-loop-i : goal.invariant-loop-i

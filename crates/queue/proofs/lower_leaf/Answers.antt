@@ -1,9 +1,8 @@
 -- The group of the leaf is lowered by the same key (`put_lower`).
-use Rattle.common.proofs.Ground.{arith, length-set}
 use Rattle.queue.proofs.Groups.{put_lower}
 use Rattle.queue.proofs.lower_leaf.Goals as goal
 
 pub returns : goal.returns
 returns c = record {
-      lowered = put_lower _ _ _ _ _ c.requires.page c.requires.groups c.lesser.ensures.value c.lesser-2.ensures.value;
-    }
+  lowered = put_lower _ _ _ _ _ c.requires.page c.requires.groups c.lesser.ensures.value c.lesser-2.ensures.value;
+}

@@ -12,10 +12,10 @@ loop-i-preserved c =
     let list = c.args.list.now in
     let i = c.loop-i.i in (
       c.put_record.ensures.put ∙
-      ap (λ l. set l i c.kept_record-r.result) c.loop-i.invariant.0 ∙
-      ap (λ r. set (filled kept i list) i r) c.kept_record-r.ensures.value ∙
-      sym (filled_next kept i list) ∙
-      ap (λ n. filled kept n list) (sym (add-one i)),
+          ap (λ l. set l i c.kept_record-r.result) c.loop-i.invariant.0 ∙
+          ap (λ r. set (filled kept i list) i r) c.kept_record-r.ensures.value ∙
+          sym (filled_next kept i list) ∙
+          ap (λ n. filled kept n list) (sym (add-one i)),
       omega arith,
       c.put_record.auto.list ∙ c.loop-i.invariant.2,
     )

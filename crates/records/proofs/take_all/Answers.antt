@@ -1,4 +1,4 @@
-use Rattle.common.proofs.Ground.{ap, refl, sym, ◌∙◌, take, arith, add-one}
+use Rattle.common.proofs.Ground.{ap, sym, ◌∙◌, take, arith, add-one}
 use Rattle.writing.specs.Taking.{taking, take_of, taken}
 use Rattle.records.proofs.Steps.{taken_none, taken_next}
 use Rattle.records.proofs.take_all.Goals as goal
@@ -13,10 +13,10 @@ loop-i-preserved c =
     let begun = taking c.args.kept.now 0 in
     let i = c.loop-i.i in (
       c.take-count.ensures.taken ∙
-      ap (λ t. take_of size t i c.record_at-r.result) c.loop-i.invariant.0 ∙
-      ap (λ r. take_of size (taken size begun 0 (take i records)) i r) c.record_at-r.ensures.value ∙
-      sym (taken_next size begun records i (omega arith)) ∙
-      ap (λ n. taken size begun 0 (take n records)) (sym (add-one i)),
+          ap (λ t. take_of size t i c.record_at-r.result) c.loop-i.invariant.0 ∙
+          ap (λ r. take_of size (taken size begun 0 (take i records)) i r) c.record_at-r.ensures.value ∙
+          sym (taken_next size begun records i (omega arith)) ∙
+          ap (λ n. taken size begun 0 (take n records)) (sym (add-one i)),
       omega arith,
       c.take-count.auto.kept ∙ c.loop-i.invariant.2,
     )

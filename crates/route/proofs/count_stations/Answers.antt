@@ -1,18 +1,17 @@
-use Rattle.common.proofs.Ground.{◌-◌, length}
-use Rattle.route.proofs.Counting.{Counting, count-start, count_end, count_source, count_lost, count_onward}
+use Rattle.route.proofs.Counting.{count_end, count_source, count_lost, count_onward}
 use Rattle.route.proofs.count_stations.Goals as goal
 
 pub returns-then-before : goal.returns-then-before
 returns-then-before c = record {
-      count = count_source _ _ _ _ _ c.loop-passed.invariant c.loop-passed-test.true c.predecessor_at-before.ensures.value
-    c.if-before.true;
-    }
+  count = count_source _ _ _ _ _ c.loop-passed.invariant c.loop-passed-test.true c.predecessor_at-before.ensures.value
+      c.if-before.true;
+}
 
 pub returns-then-preds-before : goal.returns-then-preds-before
 returns-then-preds-before c = record {
-      count = count_lost _ _ _ _ _ c.loop-passed.invariant c.loop-passed-test.true
-    c.predecessor_at-before.ensures.value c.if-before.false c.if-preds-before.true;
-    }
+  count = count_lost _ _ _ _ _ c.loop-passed.invariant c.loop-passed-test.true
+      c.predecessor_at-before.ensures.value c.if-before.false c.if-preds-before.true;
+}
 
 pub loop-passed-preserved : goal.loop-passed-preserved
 loop-passed-preserved c =
@@ -21,5 +20,5 @@ loop-passed-preserved c =
 
 pub returns : goal.returns
 returns c = record {
-      count = count_end _ _ _ _ 0 c.loop-passed.invariant c.loop-passed-test.false;
-    }
+  count = count_end _ _ _ _ 0 c.loop-passed.invariant c.loop-passed-test.false;
+}

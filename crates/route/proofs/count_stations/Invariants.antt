@@ -1,7 +1,7 @@
 -- `route::count_stations` counts the chain's stations (proofs/Counting.antt). The measure is the number of stations
 -- that may still come.
 use Rattle.common.proofs.Ground.{◌-◌, length}
-use Rattle.route.proofs.Counting.{Counting, count-start, count_end, count_source, count_lost, count_onward}
+use Rattle.route.proofs.Counting.{Counting}
 use Rattle.route.proofs.count_stations.Given as goal
 
 abbrev pub invariant-loop-passed : goal.invariant-loop-passed

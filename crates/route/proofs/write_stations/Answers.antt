@@ -1,5 +1,4 @@
-use Rattle.route.specs.Route.{trail}
-use Rattle.route.proofs.Writing.{Writing, write-start, write_more, write_end}
+use Rattle.route.proofs.Writing.{write_more, write_end}
 use Rattle.route.proofs.write_stations.Goals as goal
 
 pub loop-left-preserved : goal.loop-left-preserved
@@ -8,5 +7,5 @@ loop-left-preserved c =
 
 pub returns : goal.returns
 returns c = record {
-      written = write_end c.loop-left.invariant c.loop-left-test.false;
-    }
+  written = write_end c.loop-left.invariant c.loop-left-test.false;
+}

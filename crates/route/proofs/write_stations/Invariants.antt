@@ -1,7 +1,6 @@
 -- `route::write_stations` writes the trail from its end (proofs/Writing.antt). The measure is the number of places left
 -- to write.
-use Rattle.route.specs.Route.{trail}
-use Rattle.route.proofs.Writing.{Writing, write-start, write_more, write_end}
+use Rattle.route.proofs.Writing.{Writing}
 use Rattle.route.proofs.write_stations.Given as goal
 
 abbrev pub invariant-loop-left : goal.invariant-loop-left

@@ -3,7 +3,7 @@
 use Rattle.common.proofs.Ground.{◌≡◌, refl, sym, ◌∙◌, ap, List, ℕ, drop}
 use Rattle.commands.specs.declared.Command.{Command}
 use Rattle.commands.specs.Commands.{command_at}
-use Rattle.rules.specs.Rules.{next_on, judge_end, judge, judged_at}
+use Rattle.rules.specs.Rules.{judge_end, judge, judged_at}
 use Rattle.rules.proofs.Due.{judged_end_by_slot}
 use Rattle.rules.proofs.judged_at.Goals as goal
 

@@ -5,9 +5,9 @@ use Rattle.store.proofs.count_reads.Goals as goal
 
 pub replay_list-requires : goal.replay_list-requires
 replay_list-requires c = record {
-      table = c.requires.table;
-      entries = c.requires.entries;
-      some = c.requires.some;
-      nothing = ring_none c.args.pages c.requires.table.few.1;
-      memory = (refl, refl);
-    }
+  table = c.requires.table;
+  entries = c.requires.entries;
+  some = c.requires.some;
+  nothing = ring_none c.args.pages c.requires.table.few.1;
+  memory = (refl, refl);
+}

@@ -14,11 +14,11 @@ check_pages-requires c =
 pub returns-in-Whole : goal.returns-in-Whole
 unfolding whole_check
 returns-in-Whole c = record {
-      outcome = rw ((let own : heading_check c.args.image.now ≡ accepted = sym c.check_heading.ensures.outcome ∙ ap outcome_of c.in-Whole.is in own)) c.check_pages.ensures.outcome;
-    }
+  outcome = rw ((let own : heading_check c.args.image.now ≡ accepted = sym c.check_heading.ensures.outcome ∙ ap outcome_of c.in-Whole.is in own)) c.check_pages.ensures.outcome;
+}
 
 pub returns-in-Refused : goal.returns-in-Refused
 unfolding whole_check
 returns-in-Refused c = record {
-      outcome = rw (← c.check_heading.ensures.outcome, c.in-Refused.is);
-    }
+  outcome = rw (← c.check_heading.ensures.outcome, c.in-Refused.is);
+}

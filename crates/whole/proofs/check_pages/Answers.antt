@@ -1,6 +1,4 @@
-use Rattle.common.proofs.Ground.{◌≡◌, refl, ap, sym, ◌∙◌, ◌-◌, arith, sub-zero, length}
-use Rattle.image.specs.Image.{page_count}
-use Rattle.whole.specs.Check.{pages_from}
+use Rattle.common.proofs.Ground.{refl, ap, sym, ◌∙◌, arith, length}
 use Rattle.image.proofs.Parts.{directory_most}
 use Rattle.whole.proofs.Pages.{pages_step, pages_end}
 use Rattle.common.proofs.Ground.{rules}
@@ -26,5 +24,5 @@ loop-p-preserved c =
 
 pub returns : goal.returns
 returns c = record {
-      outcome = pages_end _ _ _ c.loop-p-test.false ∙ c.loop-p.invariant.0;
-    }
+  outcome = pages_end _ _ _ c.loop-p-test.false ∙ c.loop-p.invariant.0;
+}

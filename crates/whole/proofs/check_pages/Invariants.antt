@@ -1,11 +1,8 @@
 -- The loop's invariant: the pages from p on decide as all the pages do, and the layout keeps its length. A page read as
 -- good hands on to the next one, and the first that is bad is the outcome (proofs/Pages.antt).
-use Rattle.common.proofs.Ground.{◌≡◌, refl, ap, sym, ◌∙◌, ◌-◌, arith, sub-zero, length}
+use Rattle.common.proofs.Ground.{◌≡◌, ◌-◌, length}
 use Rattle.image.specs.Image.{page_count}
 use Rattle.whole.specs.Check.{pages_from}
-use Rattle.image.proofs.Parts.{directory_most}
-use Rattle.whole.proofs.Pages.{pages_step, pages_end}
-use Rattle.common.proofs.Ground.{rules}
 use Rattle.whole.proofs.check_pages.Given as goal
 
 abbrev pub invariant-loop-p : goal.invariant-loop-p

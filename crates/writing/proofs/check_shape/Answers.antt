@@ -8,8 +8,8 @@ use Rattle.writing.proofs.check_shape.Goals as goal
 pub returns-then-outside : goal.returns-then-outside
 unfolding shape_check
 returns-then-outside c = record {
-      outcome = search (tests, c.refuse.ensures.outcome, ← c.outside.ensures.value, c.if-outside.true);
-    }
+  outcome = search (tests, c.refuse.ensures.outcome, ← c.outside.ensures.value, c.if-outside.true);
+}
 
 pub returns-then-outside-2 : goal.returns-then-outside-2
 unfolding shape_check
@@ -17,12 +17,12 @@ returns-then-outside-2 c =
     let stations_pass : eqb c.args.size 0 || ltb 2048 c.args.size ≡ false = sym c.outside.ensures.value ∙ c.if-outside.false in
     record {
       outcome = search (
-      tests,
-      c.refuse-then-outside-2.ensures.outcome,
-      stations_pass,
-      ← c.outside-2.ensures.value,
-      c.if-outside-2.true,
-    );
+        tests,
+        c.refuse-then-outside-2.ensures.outcome,
+        stations_pass,
+        ← c.outside-2.ensures.value,
+        c.if-outside-2.true,
+      );
     }
 
 pub returns-then-room-size : goal.returns-then-room-size
@@ -59,7 +59,7 @@ returns-then-station-size c =
       outcome =
           let st = c.first_not_below-station.result in
           let low : refused 5 (at_station st) ≡ pick (ltb st c.args.size) (refused 5 (at_station st)) accepted =
-              search tests in
+          search tests in
           c.refuse-then-station-size.ensures.outcome ∙ low ∙ sym scan_decides;
     }
 

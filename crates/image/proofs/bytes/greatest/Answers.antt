@@ -1,4 +1,4 @@
-use Rattle.common.proofs.Ground.{◌≡◌, dite, ℕ, ◌-◌, ◌≤◌, ◌<◌, arith, ℕ_discrete, dec_lt, length, get_or}
+use Rattle.common.proofs.Ground.{dite, arith, ℕ_discrete, dec_lt, length, get_or}
 use Rattle.common.proofs.Ground.{get_or-eq_default}
 use Rattle.image.proofs.bytes.greatest.Goals as goal
 
@@ -9,8 +9,7 @@ loop-i-init c =
 
 pub loop-i-preserved : goal.loop-i-preserved
 loop-i-preserved c =
-    let s = c.args.s.now in
-    (
+    let s = c.args.s.now in (
       dite (dec_lt c.loop-i.most (get_or s c.loop-i.i 0))
           (λ l. (c.loop-i.i, omega (arith, c.greater-most.ensures.value)))
           (λ n. (c.loop-i.invariant.0.0, omega (arith, c.loop-i.invariant.0.1, c.greater-most.ensures.value))),

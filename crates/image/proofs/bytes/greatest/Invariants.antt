@@ -1,7 +1,6 @@
 -- The loop's invariant: the greatest byte so far is one of the bytes, and none before i is above it. What lies past the
 -- end reads as 0, which the loop begins with.
-use Rattle.common.proofs.Ground.{◌≡◌, dite, ℕ, ◌-◌, ◌≤◌, ◌<◌, arith, ℕ_discrete, dec_lt, length, get_or}
-use Rattle.common.proofs.Ground.{get_or-eq_default}
+use Rattle.common.proofs.Ground.{◌≡◌, ℕ, ◌-◌, ◌≤◌, ◌<◌, length, get_or}
 use Rattle.image.proofs.bytes.greatest.Given as goal
 
 abbrev pub invariant-loop-i : goal.invariant-loop-i

@@ -1,6 +1,5 @@
-use Rattle.common.proofs.Ground.{◌≡◌, refl, sym, ◌∙◌, ◌*◌, ◌-◌, ◌≤◌, arith, length, drop}
-use Rattle.image.specs.Bytes.{all_zero}
-use Rattle.image.proofs.Scans.{zero_with, zero_added, zero_end}
+use Rattle.common.proofs.Ground.{sym, ◌∙◌, arith}
+use Rattle.image.proofs.Scans.{zero_added, zero_end}
 use Rattle.image.proofs.bytes.zero_from.Goals as goal
 
 pub loop-i-preserved : goal.loop-i-preserved
@@ -12,5 +11,5 @@ loop-i-preserved c =
 
 pub returns : goal.returns
 returns c = record {
-      value = sym (zero_end c.args.s.now c.loop-i.sum c.loop-i.i c.loop-i-test.false) ∙ c.loop-i.invariant.0;
-    }
+  value = sym (zero_end c.args.s.now c.loop-i.sum c.loop-i.i c.loop-i-test.false) ∙ c.loop-i.invariant.0;
+}

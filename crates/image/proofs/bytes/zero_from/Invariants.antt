@@ -1,8 +1,8 @@
 -- The loop's invariant: all bytes from `at` on are 0 exactly if the sum is and those from i on are; and the sum is at
 -- most 255 for each byte passed. A byte added to the sum is one step of the scan (proofs/Scans.antt).
-use Rattle.common.proofs.Ground.{◌≡◌, refl, sym, ◌∙◌, ◌*◌, ◌-◌, ◌≤◌, arith, length, drop}
+use Rattle.common.proofs.Ground.{◌≡◌, ◌*◌, ◌-◌, ◌≤◌, length, drop}
 use Rattle.image.specs.Bytes.{all_zero}
-use Rattle.image.proofs.Scans.{zero_with, zero_added, zero_end}
+use Rattle.image.proofs.Scans.{zero_with}
 use Rattle.image.proofs.bytes.zero_from.Given as goal
 
 abbrev pub invariant-loop-i : goal.invariant-loop-i

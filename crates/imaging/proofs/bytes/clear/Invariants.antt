@@ -1,7 +1,6 @@
 -- The invariant: so many zeros stand before what was there.
-use Rattle.common.proofs.Ground.{◌≡◌, ap, ◌∙◌, ◌++◌, append-nil, ◌-◌, ◌≤◌, arith, length, drop, replicate, length-set}
-use Rattle.common.proofs.Ground.{set, refl, drop-length, List, ℕ}
-use borrow.Author.Fill.{fill_none, fill_more}
+use Rattle.common.proofs.Ground.{◌≡◌, ◌++◌, ◌-◌, ◌≤◌, length, drop, replicate}
+use Rattle.common.proofs.Ground.{List, ℕ}
 use Rattle.imaging.proofs.bytes.clear.Given as goal
 
 pub record Cleared (before after : List ℕ) (i : ℕ) : Type 0 where

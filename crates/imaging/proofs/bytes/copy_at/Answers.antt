@@ -1,6 +1,5 @@
-use Rattle.common.proofs.Ground.{◌≡◌, ap, sym, ◌∙◌, ◌++◌, ◌+◌, ◌-◌, ◌≤◌, arith, length, length-set, take-length, paste}
-use Rattle.common.proofs.Ground.{paste-zero, paste-suc, set, get_or, take, drop, refl, add-one, List, ℕ}
-use Rattle.imaging.proofs.bytes.copy_at.Invariants.{Copied}
+use Rattle.common.proofs.Ground.{ap, sym, ◌∙◌, ◌+◌, arith, length-set, paste}
+use Rattle.common.proofs.Ground.{paste-suc, set, get_or, add-one}
 use Rattle.imaging.proofs.bytes.copy_at.Goals as goal
 
 pub loop-i-preserved : goal.loop-i-preserved

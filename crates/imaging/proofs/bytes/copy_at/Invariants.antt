@@ -1,6 +1,6 @@
 -- The invariant: so many entries of the source are pasted (lib.Seq).
-use Rattle.common.proofs.Ground.{◌≡◌, ap, sym, ◌∙◌, ◌++◌, ◌+◌, ◌-◌, ◌≤◌, arith, length, length-set, take-length, paste}
-use Rattle.common.proofs.Ground.{paste-zero, paste-suc, set, get_or, take, drop, refl, add-one, List, ℕ}
+use Rattle.common.proofs.Ground.{◌≡◌, ◌-◌, ◌≤◌, length, paste}
+use Rattle.common.proofs.Ground.{List, ℕ}
 use Rattle.imaging.proofs.bytes.copy_at.Given as goal
 
 pub record Copied (before : List ℕ) (at : ℕ) (source after : List ℕ) (i : ℕ) : Type 0 where

@@ -1,6 +1,6 @@
-use Rattle.common.proofs.Ground.{refl, sym, ◌∙◌, ap, ℕ, ◌+◌, ◌-◌, ◌*◌, ◌<◌, ◌≤◌, arith, length, get_or}
+use Rattle.common.proofs.Ground.{refl, ℕ, ◌+◌, ◌*◌, ◌<◌, ◌≤◌, arith, length, get_or}
 use Rattle.imaging.specs.Runs.{run_at, station_bytes}
-use Rattle.imaging.proofs.Pages.Filling.{Filled, filled_none, filled_all, filled_room, filled_more}
+use Rattle.imaging.proofs.Pages.Filling.{filled_none, filled_all, filled_room, filled_more}
 use Rattle.imaging.proofs.stations.write_stations.Goals as goal
 
 pub loop-u-init : goal.loop-u-init
@@ -35,7 +35,6 @@ pub loop-u-preserved : goal.loop-u-preserved
 loop-u-preserved c =
     let page : ℕ = get_or c.args.directory.now c.loop-u.u 0 in
     let byte : (page) < 256 = omega (arith, c.type_inv.directory c.loop-u.u) in
-   
     rw c.write_station-behind.ensures.next
     (filled_more c.args.kept.now c.args.count c.args.directory.now _ c.requires.fitting c.loop-u.ends c.loop-u.bytes
     c.loop-u.next c.loop-u.u (page) c.loop-u.invariant c.loop-u-test.true refl _ _ (byte) c.write_station-behind.ensures.put
@@ -43,6 +42,6 @@ loop-u-preserved c =
 
 pub returns : goal.returns
 returns c = record {
-      written = filled_all c.args.kept.now c.args.count c.args.directory.now _ c.requires.fitting c.loop-u.ends c.loop-u.bytes c.loop-u.next
-    c.loop-u.u c.loop-u.invariant (omega (arith, c.loop-u-test.false, c.loop-u.invariant.inside));
-    }
+  written = filled_all c.args.kept.now c.args.count c.args.directory.now _ c.requires.fitting c.loop-u.ends c.loop-u.bytes c.loop-u.next
+      c.loop-u.u c.loop-u.invariant (omega (arith, c.loop-u-test.false, c.loop-u.invariant.inside));
+}

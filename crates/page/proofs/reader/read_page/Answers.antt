@@ -9,8 +9,8 @@ use Rattle.commands.specs.declared.Command.{Command}
 use Rattle.commands.specs.Commands.{length_of}
 use Rattle.rules.specs.Rules.{next_on, judged_at}
 use Rattle.page.proofs.Reading.Steps.{found_at, IsMove, unlimited, limited}
-use Rattle.page.proofs.Reading.Progress.{Progress, progress_start, MoveFits, move_fits, progress_move}
-use Rattle.page.proofs.Reading.Progress.{StationFits, station_fits, progress_station, decided, end_laid}
+use Rattle.page.proofs.Reading.Progress.{Progress, progress_start, move_fits, progress_move}
+use Rattle.page.proofs.Reading.Progress.{station_fits, progress_station, decided, end_laid}
 use Rattle.page.proofs.reader.read_page.Goals as goal
 
 module _ {directory places page before layout : List ℕ} {p strip due at after least k : ℕ}
@@ -24,17 +24,17 @@ module _ {directory places page before layout : List ℕ} {p strip due at after 
 
   -- Either kind of move.
   module _ {code : ℕ} {m : Move} {x : Command} (is : IsMove m code x) (e : found_at directory p page at after least ≡ x)
-      where
-    lay_asks : (2048 + (after - 1) < length layout) × (k < length layout) × (k < 65536)
-    lay_asks =
-        let fits = move_fits l is e in
-        omega (arith, fits, l.enough.room)
+    where
+      lay_asks : (2048 + (after - 1) < length layout) × (k < length layout) × (k < 65536)
+      lay_asks =
+          let fits = move_fits l is e in
+          omega (arith, fits, l.enough.room)
 
-    ends_by : {width : ℕ} → width ≡ length_of code
-        → (0 < width) × (at + width ≤ 256) × (at + width ≤ length page)
-    ends_by width =
-        let fits = move_fits l is e in
-        omega (arith, fits.wide, fits.ends, l.enough.short, width)
+      ends_by : {width : ℕ} → width ≡ length_of code
+          → (0 < width) × (at + width ≤ 256) × (at + width ≤ length page)
+      ends_by width =
+          let fits = move_fits l is e in
+          omega (arith, fits.wide, fits.ends, l.enough.short, width)
 
 pub page-init : goal.page-init
 page-init c =

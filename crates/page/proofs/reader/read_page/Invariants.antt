@@ -1,16 +1,8 @@
 -- Both loops keep `Progress` (proofs/Reading/Progress.antt): what is left to read decides the verdict, and the stations
 -- named so far have their rows. Each arm of the match is one step of it. The inner loop does not know the layout that
 -- the function was lent, so that it keeps progress over any layout of before.
-use Rattle.common.proofs.Ground.{◌≡◌, ap, sym, ◌∙◌, List, ℕ, ◌+◌, ◌-◌, ◌≤◌, ◌<◌, arith, length}
-use Rattle.common.proofs.Cases.{never}
-use Rattle.page.specs.Reading.{verdict_of}
-use Rattle.commands.specs.declared.Move.{Move}
-use Rattle.commands.specs.declared.Command.{Command}
-use Rattle.commands.specs.declared.Command.TheVariants.{MoveTo, Limited}
-use Rattle.commands.specs.Commands.{length_of}
-use Rattle.page.proofs.Reading.Steps.{found_at, IsMove, unlimited, limited}
-use Rattle.page.proofs.Reading.Progress.{Progress, progress_start, MoveFits, move_fits, progress_move}
-use Rattle.page.proofs.Reading.Progress.{StationFits, station_fits, progress_station, decided, end_laid}
+use Rattle.common.proofs.Ground.{List, ℕ, ◌-◌, ◌≤◌, length}
+use Rattle.page.proofs.Reading.Progress.{Progress}
 use Rattle.page.proofs.reader.read_page.Given as goal
 
 abbrev pub invariant-loop-m : goal.invariant-loop-m

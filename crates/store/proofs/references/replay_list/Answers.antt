@@ -1,7 +1,7 @@
-use Rattle.common.proofs.Ground.{sym, ◌∙◌, ◌<◌, ◌-◌, arith, length}
+use Rattle.common.proofs.Ground.{◌<◌, arith, length}
 use Rattle.image.specs.Image.{first_not_below}
 use Rattle.image.proofs.Heading.{below_before}
-use Rattle.store.proofs.Replaying.{Replaying, replaying_first, replaying_next, replaying_all}
+use Rattle.store.proofs.Replaying.{replaying_first, replaying_next, replaying_all}
 use Rattle.common.proofs.Ground.{rules}
 use Rattle.store.proofs.references.replay_list.Goals as goal
 
@@ -25,5 +25,5 @@ loop-i-preserved c = replaying_next _ _ _ _ _ c.requires.entries c.loop-i.invari
 
 pub returns : goal.returns
 returns c = record {
-      value = replaying_all _ _ _ _ _ c.loop-i.invariant c.loop-i-test.false;
-    }
+  value = replaying_all _ _ _ _ _ c.loop-i.invariant c.loop-i-test.false;
+}

@@ -1,9 +1,6 @@
 -- The loop's invariant is the replay so far (proofs/Replaying.antt).
-use Rattle.common.proofs.Ground.{sym, ◌∙◌, ◌<◌, ◌-◌, arith, length}
-use Rattle.image.specs.Image.{first_not_below}
-use Rattle.image.proofs.Heading.{below_before}
-use Rattle.store.proofs.Replaying.{Replaying, replaying_first, replaying_next, replaying_all}
-use Rattle.common.proofs.Ground.{rules}
+use Rattle.common.proofs.Ground.{◌-◌, length}
+use Rattle.store.proofs.Replaying.{Replaying}
 use Rattle.store.proofs.references.replay_list.Given as goal
 
 abbrev pub invariant-loop-i : goal.invariant-loop-i

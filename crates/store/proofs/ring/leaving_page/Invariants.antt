@@ -1,9 +1,8 @@
 -- The loop's invariant: whatever pages are held, the way back from the end has come so far (proofs/Leaving.antt).
-use Rattle.common.proofs.Ground.{◌≡◌, sym, ◌∙◌, List, ℕ, ◌<◌, arith, length}
+use Rattle.common.proofs.Ground.{◌≡◌, List, ℕ, length}
 use Rattle.paging.specs.Store.{is_far}
 use Rattle.store.specs.Ring.{Ring}
-use Rattle.store.proofs.Chain.{back_from_end}
-use Rattle.store.proofs.Leaving.{Walked, page_below, walked_none, walked_on, far_leaves, oldest_leaves}
+use Rattle.store.proofs.Leaving.{Walked}
 use Rattle.store.proofs.ring.leaving_page.Given as goal
 
 abbrev pub invariant-loop-left : goal.invariant-loop-left

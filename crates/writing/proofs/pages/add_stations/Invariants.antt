@@ -1,7 +1,6 @@
 -- The invariant: what is left of the directory, added to the sums as they are, gives what the whole of it gives.
-use Rattle.common.proofs.Ground.{◌≡◌, refl, sym, ◌∙◌, ◌-◌, ◌≤◌, arith, drop, length, length-set}
+use Rattle.common.proofs.Ground.{◌≡◌, ◌-◌, ◌≤◌, drop, length}
 use Rattle.writing.specs.Sums.{sums_from}
-use Rattle.writing.proofs.Sums.{sums_turn, sums_end}
 use Rattle.writing.proofs.pages.add_stations.Given as goal
 
 abbrev pub invariant-loop-u : goal.invariant-loop-u

@@ -1,8 +1,7 @@
 -- The invariant: a scan from p on finds the page that a scan from 0 on finds. A sum over 256 ends it, and any other is
 -- passed over.
-use Rattle.common.proofs.Ground.{◌≡◌, sym, ◌∙◌, ◌-◌, ◌≤◌, arith, sub-zero}
+use Rattle.common.proofs.Ground.{◌≡◌, ◌-◌, ◌≤◌}
 use Rattle.writing.specs.Sums.{first_over}
-use Rattle.writing.proofs.Sums.{over_here, over_onward, over_none}
 use Rattle.writing.proofs.pages.first_over.Given as goal
 
 abbrev pub invariant-loop-p : goal.invariant-loop-p
