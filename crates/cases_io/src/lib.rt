@@ -8,7 +8,11 @@
 
 use image::bytes::word_at;
 use image::{Place, Refusal};
-use libc::{STDIN_FILENO, STDOUT_FILENO};
+
+// The numbers of standard input and standard output.
+pub const STDIN_FILENO: i32 = 0;
+
+pub const STDOUT_FILENO: i32 = 1;
 
 // The longest image of a case.
 pub const BYTES: usize = 70000;

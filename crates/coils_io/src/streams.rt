@@ -4,7 +4,7 @@
 ghost use Rattle.std.specs.Prelude.{◌≤◌, length};
 
 use std::io::{Error, ErrorKind};
-use std::{io, thread};
+use std::{hint, io};
 
 // What reading left: so many bytes at the buffer's front, and why a read failed, if one did.
 #[derive(Drop)]
@@ -16,7 +16,7 @@ pub struct Read {
 // Whether to call again after a call that failed so: not after an error that lasts.
 fn goes_on(error: &Error) -> bool {
     if error.kind() == ErrorKind::WouldBlock {
-        thread::yield_now();
+        hint::spin_loop();
         return true;
     }
     error.kind() == ErrorKind::Interrupted

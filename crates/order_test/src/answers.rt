@@ -1,9 +1,8 @@
 // The text of the naming call's answer: `first less`, `second less` or `equal`, or which image is refused, with the
 // refusal's number and the place that it names.
 
-use cases_io::print_refusal;
+use cases_io::{STDOUT_FILENO, print_refusal};
 use image::Refusal;
-use libc::STDOUT_FILENO;
 use order::{Comparison, OrderAnswer};
 
 fn print_words(words: &[u8]) {

@@ -12,9 +12,10 @@
 mod answers;
 
 use answers::print_answer;
-use cases_io::{Map, after_call, change_bytes, long_at, print_number, read_map};
+use cases_io::{
+    Map, STDIN_FILENO, STDOUT_FILENO, after_call, change_bytes, long_at, print_number, read_map,
+};
 use image::bytes::part_of;
-use libc::{STDIN_FILENO, STDOUT_FILENO};
 use order::{compare, lesser};
 use tables_io::print_bytes;
 

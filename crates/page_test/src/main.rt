@@ -13,9 +13,9 @@ ghost use Rattle.layout.specs.Places.{Placed};
 use image::bytes::{byte_at, word_at};
 use image::{Checked, check_heading, directory_of, page_count};
 use layout::places::{PLACES, place};
-use libc::{STDIN_FILENO, STDOUT_FILENO};
 use readings_io::answers::{of_image, of_page, print};
 use readings_io::runs::{begun, ended, extended};
+use readings_io::{STDIN_FILENO, STDOUT_FILENO};
 
 // Prints the page reader's answers for the pages up to the last one.
 fn print_readings(image: &[u8], directory: &[u8], places: &[u16], last: u8)

@@ -3,8 +3,7 @@
 // float, so that another one shows even where it is printed alike.
 
 use super::floats::{asked, is_negative, size};
-use cases_io::print_number;
-use libc::STDOUT_FILENO;
+use cases_io::{STDOUT_FILENO, print_number};
 use std::num::{wrapping_add_u16, wrapping_add_u32, wrapping_sub_u64};
 
 // The digest is a number below this prime.

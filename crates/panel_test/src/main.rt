@@ -10,9 +10,8 @@
 mod floats;
 mod line;
 
-use cases_io::{BYTES, Map, after_call, change_bytes, read_map};
+use cases_io::{BYTES, Map, STDIN_FILENO, after_call, change_bytes, read_map};
 use image::bytes::word_at;
-use libc::STDIN_FILENO;
 use line::print_line;
 
 // Makes the changes of a call and prints its line.

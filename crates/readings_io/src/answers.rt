@@ -2,9 +2,9 @@
 
 ghost use Rattle.layout.specs.Places.{Placed};
 
+use crate::STDOUT_FILENO;
 use image::{Checked, Place, Refusal, page_of};
 use layout::moves::LAYOUT;
-use libc::STDOUT_FILENO;
 use page::Verdict;
 use page::reader::read_page;
 

@@ -4,3 +4,8 @@
 
 pub mod answers;
 pub mod runs;
+
+// The numbers of standard input and standard output.
+pub const STDIN_FILENO: i32 = 0;
+
+pub const STDOUT_FILENO: i32 = 1;

@@ -2,7 +2,7 @@
 // `0 good, 1-255 refused 14 page 0 offset 3`.
 
 use super::answers::{Answer, print, same};
-use libc::STDOUT_FILENO;
+use crate::STDOUT_FILENO;
 
 // The numbers from `from` to `to`, which all have the same answer.
 #[derive(Clone, Copy)]

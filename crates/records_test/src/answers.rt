@@ -1,7 +1,6 @@
 // The text of an answer: `listed 8` or `written`, or the refusal's number with the place that it names.
 
-use cases_io::{print_number, print_refusal};
-use libc::STDOUT_FILENO;
+use cases_io::{STDOUT_FILENO, print_number, print_refusal};
 use listing::ReadAnswer;
 use writing::WriteAnswer;
 

@@ -20,9 +20,10 @@ mod reader;
 mod rounds;
 mod writer;
 
-use cases_io::{Map, after_call, change_bytes, print_number, read_map};
+use cases_io::{
+    Map, STDIN_FILENO, STDOUT_FILENO, after_call, change_bytes, print_number, read_map,
+};
 use image::bytes::word_at;
-use libc::{STDIN_FILENO, STDOUT_FILENO};
 use rounds::{run_reader, run_writer};
 
 // The kind of a call of the writer.

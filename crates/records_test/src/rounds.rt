@@ -5,9 +5,9 @@ ghost use Rattle.std.specs.Prelude.{◌≡◌, ◌*◌, ◌≤◌, length};
 
 use super::reader::{few, read_image};
 use super::writer::{Drawing, write_image};
+use cases_io::STDOUT_FILENO;
 use image::bytes::{part_of, word_at};
 use image::directory_of;
-use libc::STDOUT_FILENO;
 use listing::ReadAnswer;
 use move_record::kept::KEPT;
 use tables_io::{LONGEST, within_longest};

@@ -4,8 +4,12 @@
 // tests/make_route_cases.py writes the cases and, by rules of its own, the text that this program must print.
 #![tactic(auto)]
 
-use libc::{STDIN_FILENO, STDOUT_FILENO};
 use route::RouteAnswer;
+
+// The numbers of standard input and standard output.
+const STDIN_FILENO: i32 = 0;
+
+const STDOUT_FILENO: i32 = 1;
 
 // What stands in the output before a call: no station of any case.
 const CANARY: u16 = 43690;

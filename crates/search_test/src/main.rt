@@ -8,9 +8,10 @@
 
 #![tactic(auto)]
 
-use cases_io::{BYTES, Map, after_call, change_bytes, print_number, read_map};
+use cases_io::{
+    BYTES, Map, STDIN_FILENO, STDOUT_FILENO, after_call, change_bytes, print_number, read_map,
+};
 use image::bytes::word_at;
-use libc::{STDIN_FILENO, STDOUT_FILENO};
 use searches_io::run_search;
 
 fn print_lengths(call: &[u8]) {

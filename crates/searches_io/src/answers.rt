@@ -1,8 +1,7 @@
 // The text of an answer: `accepted, count 3, reached 7`, or the refusal's number with the place that it names.
 
-use cases_io::print_number;
+use cases_io::{STDOUT_FILENO, print_number};
 use image::{Place, Refusal};
-use libc::STDOUT_FILENO;
 use reply::Answer;
 
 fn print_accepted(count: usize, reached: usize) {

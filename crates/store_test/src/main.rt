@@ -10,9 +10,10 @@
 
 ghost use Rattle.std.specs.Prelude.{◌≤◌, length};
 
-use cases_io::{Map, after_call, change_bytes, long_at, print_number, read_map};
+use cases_io::{
+    Map, STDIN_FILENO, STDOUT_FILENO, after_call, change_bytes, long_at, print_number, read_map,
+};
 use image::bytes::part_of;
-use libc::{STDIN_FILENO, STDOUT_FILENO};
 use store::{ReplayAnswer, replay};
 
 // The most bytes of a case: those of a full table, of 57,600 entries, and of lists of 79,600 entries together.

@@ -6,8 +6,7 @@
 
 ghost use Rattle.std.specs.Prelude.{◌≤◌};
 
-use cases_io::print_number;
-use libc::STDOUT_FILENO;
+use cases_io::{STDOUT_FILENO, print_number};
 
 // The longest table of a case of search_test.
 pub const ENTRIES: usize = 2100;

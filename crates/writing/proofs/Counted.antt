@@ -111,7 +111,10 @@ kept_again size t i (r ∷ rs) memory all few end =
     let is = kept_record_lem t.kept i r memory (omega arith) in
     let rest = kept_again size next (suc i) rs (kept_length t.kept i r ∙ memory) refl (omega arith)
     (others_taken size t i r rs all end) in
-    cc
+    let others = kept_from (taken size next (suc i) rs).kept (length rs) (suc i) in
+    ap (λ u. kept_from u.kept (suc (length rs)) i) same ∙
+    ap (λ x. x ∷ others) (stays ∙ is) ∙
+    ap (λ l. r ∷ l) rest
 
 -- All of a list: the records are kept, if a map can have so many.
 pub taken_kept : (size : ℕ) (records : List MoveRecord) → (taken_all size records).count ≡ length records

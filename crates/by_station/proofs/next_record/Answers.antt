@@ -9,48 +9,63 @@ use Rattle.by_station.proofs.next_record.Goals as goal
 
 pub overflow_cast-u : goal.overflow_cast-u
 overflow_cast-u c =
-    omega (arith, (let own : c.loop-u.u < station_count ((let own : List ℕ = c.args.image.now in own)) = omega (
+    let due : c.loop-u.u < station_count (c.args.image.now) = omega (
       arith,
       c.loop-u-test.true,
       ap length c.directory_of-directory.ensures.part,
       (well-formed _ c.requires.whole).directory,
-    ) in own), (well-formed _ c.requires.whole).stations_most)
+    ) in
+   
+    omega (arith, due, (well-formed _ c.requires.whole).stations_most)
 
 pub returns-in-Found : goal.returns-in-Found
-returns-in-Found c = record {
-      next = λ left stands.
-    rw (c.record_for.ensures.value, (let own : get_or c.directory_of-directory.result.now c.loop-u.u 0 ≡ page_at ((let own : List ℕ = c.args.image.now in own)) c.loop-u.u = ap (λ l. get_or l c.loop-u.u 0) c.directory_of-directory.ensures.part in own))
-    (standing_move _ c.requires.whole _ _ _ (c.loop-u.invariant left stands) ((let own : c.loop-u.u < station_count ((let own : List ℕ = c.args.image.now in own)) = omega (
+returns-in-Found c =
+    let due : c.loop-u.u < station_count (c.args.image.now) = omega (
       arith,
       c.loop-u-test.true,
       ap length c.directory_of-directory.ensures.part,
       (well-formed _ c.requires.whole).directory,
-    ) in own))
-    ((let own : next_move (page_bytes ((let own : List ℕ = c.args.image.now in own)) (page_at ((let own : List ℕ = c.args.image.now in own)) c.loop-u.u))
-    (get_or c.loop-u.offsets (page_at ((let own : List ℕ = c.args.image.now in own)) c.loop-u.u) 0) ≡ c.next_move.result = rw (← ((let own : get_or c.directory_of-directory.result.now c.loop-u.u 0 ≡ page_at ((let own : List ℕ = c.args.image.now in own)) c.loop-u.u = ap (λ l. get_or l c.loop-u.u 0) c.directory_of-directory.ensures.part in own)), ← c.page_of.ensures.part) (sym c.next_move.ensures.value) in own) ∙ c.in-Found.is));
+    ) in
+    let page_is : get_or c.directory_of-directory.result.now c.loop-u.u 0 ≡ page_at (c.args.image.now) c.loop-u.u = ap (λ l. get_or l c.loop-u.u 0) c.directory_of-directory.ensures.part in
+    let found : next_move (page_bytes (c.args.image.now) (page_at (c.args.image.now) c.loop-u.u))
+    (get_or c.loop-u.offsets (page_at (c.args.image.now) c.loop-u.u) 0) ≡ c.next_move.result = rw (← (page_is), ← c.page_of.ensures.part) (sym c.next_move.ensures.value) in
+    record {
+      next = λ left stands.
+    rw (c.record_for.ensures.value, page_is)
+    (standing_move _ c.requires.whole _ _ _ (c.loop-u.invariant left stands) (due)
+    (found ∙ c.in-Found.is));
     }
 
 pub overflow_add-offsets : goal.overflow_add-offsets
 overflow_add-offsets c =
-    let inside = offset_inside _ c.requires.whole _ _ _ ((let own : Standing ((let own : List ℕ = c.args.image.now in own)) c.loop-u.u c.loop-u.offsets c.requires.standing.0 = c.loop-u.invariant c.requires.standing.0 c.requires.standing.1 in own)) ((let own : c.loop-u.u < station_count ((let own : List ℕ = c.args.image.now in own)) = omega (
+    let standing : Standing (c.args.image.now) c.loop-u.u c.loop-u.offsets c.requires.standing.0 = c.loop-u.invariant c.requires.standing.0 c.requires.standing.1 in
+    let due : c.loop-u.u < station_count (c.args.image.now) = omega (
       arith,
       c.loop-u-test.true,
       ap length c.directory_of-directory.ensures.part,
       (well-formed _ c.requires.whole).directory,
-    ) in own)) in
-    omega (arith, c.length_of.ensures.value, (let own : length (page_bytes ((let own : List ℕ = c.args.image.now in own)) (page_at ((let own : List ℕ = c.args.image.now in own)) c.loop-u.u)) ≤ 256 = rw (← ((let own : get_or c.directory_of-directory.result.now c.loop-u.u 0 ≡ page_at ((let own : List ℕ = c.args.image.now in own)) c.loop-u.u = ap (λ l. get_or l c.loop-u.u 0) c.directory_of-directory.ensures.part in own)), ← c.page_of.ensures.part) c.page_of.ensures.short in own), ap (λ p. get_or c.loop-u.offsets p 0) ((let own : get_or c.directory_of-directory.result.now c.loop-u.u 0 ≡ page_at ((let own : List ℕ = c.args.image.now in own)) c.loop-u.u = ap (λ l. get_or l c.loop-u.u 0) c.directory_of-directory.ensures.part in own)))
+    ) in
+    let page_is : get_or c.directory_of-directory.result.now c.loop-u.u 0 ≡ page_at (c.args.image.now) c.loop-u.u = ap (λ l. get_or l c.loop-u.u 0) c.directory_of-directory.ensures.part in
+    let short : length (page_bytes (c.args.image.now) (page_at (c.args.image.now) c.loop-u.u)) ≤ 256 = rw (← (page_is), ← c.page_of.ensures.part) c.page_of.ensures.short in
+   
+    let inside = offset_inside _ c.requires.whole _ _ _ (standing) (due) in
+    omega (arith, c.length_of.ensures.value, short, ap (λ p. get_or c.loop-u.offsets p 0) (page_is))
 
 pub loop-u-preserved : goal.loop-u-preserved
-loop-u-preserved c = λ left stands.
-    rw (c.length_of.ensures.value, (let own : get_or c.directory_of-directory.result.now c.loop-u.u 0 ≡ page_at ((let own : List ℕ = c.args.image.now in own)) c.loop-u.u = ap (λ l. get_or l c.loop-u.u 0) c.directory_of-directory.ensures.part in own))
-    (standing_next _ c.requires.whole _ _ _ (c.loop-u.invariant left stands) ((let own : c.loop-u.u < station_count ((let own : List ℕ = c.args.image.now in own)) = omega (
+loop-u-preserved c =
+    let due : c.loop-u.u < station_count (c.args.image.now) = omega (
       arith,
       c.loop-u-test.true,
       ap length c.directory_of-directory.ensures.part,
       (well-formed _ c.requires.whole).directory,
-    ) in own))
-    ((let own : next_move (page_bytes ((let own : List ℕ = c.args.image.now in own)) (page_at ((let own : List ℕ = c.args.image.now in own)) c.loop-u.u))
-    (get_or c.loop-u.offsets (page_at ((let own : List ℕ = c.args.image.now in own)) c.loop-u.u) 0) ≡ c.next_move.result = rw (← ((let own : get_or c.directory_of-directory.result.now c.loop-u.u 0 ≡ page_at ((let own : List ℕ = c.args.image.now in own)) c.loop-u.u = ap (λ l. get_or l c.loop-u.u 0) c.directory_of-directory.ensures.part in own)), ← c.page_of.ensures.part) (sym c.next_move.ensures.value) in own) ∙ c.in-Over.is))
+    ) in
+    let page_is : get_or c.directory_of-directory.result.now c.loop-u.u 0 ≡ page_at (c.args.image.now) c.loop-u.u = ap (λ l. get_or l c.loop-u.u 0) c.directory_of-directory.ensures.part in
+    let found : next_move (page_bytes (c.args.image.now) (page_at (c.args.image.now) c.loop-u.u))
+    (get_or c.loop-u.offsets (page_at (c.args.image.now) c.loop-u.u) 0) ≡ c.next_move.result = rw (← (page_is), ← c.page_of.ensures.part) (sym c.next_move.ensures.value) in
+    λ left stands.
+    rw (c.length_of.ensures.value, page_is)
+    (standing_next _ c.requires.whole _ _ _ (c.loop-u.invariant left stands) (due)
+    (found ∙ c.in-Over.is))
 
 pub returns : goal.returns
 returns c = record {

@@ -1,0 +1,12 @@
+-- `route_test::run_cases` is safe and ends. From turn to turn the two spaces keep their lengths; the measure is the
+-- number of turns that are left.
+use borrow.Author.Rules.{rules}
+use mathlib.Core.Path.{◌≡◌}
+use lib.ListN.{length}
+use Rattle.route_test.proofs.run_cases.Given as goal
+
+abbrev pub invariant-loop-turns : goal.invariant-loop-turns
+invariant-loop-turns l = (length l.table ≡ length l.initial.table) × (length l.space ≡ length l.initial.space)
+
+abbrev pub decreases-loop-turns : goal.decreases-loop-turns
+decreases-loop-turns l = l.turns
