@@ -23,7 +23,7 @@ use Rattle.image.proofs.Agree.{stations_agree, heading_agrees}
 use Rattle.page.proofs.Agree.{reading_agrees}
 use Rattle.map.specs.Map.{offered, map_page}
 use Rattle.map.proofs.Offered.{goes_shorter}
-use Rattle.reply.specs.Reply.{Query, with_image, with_strip, frame_of, pages_of, Lent, Handed, reply, ended}
+use Rattle.reply.specs.Reply.{Query, with_image, with_strip, frame_of, pages_of, Lent, Handed, ended}
 use Rattle.reply.specs.Reply.{too_short, call_check, on_map, after_check, searched, list_of}
 use Rattle.search.specs.Promises.{SameLengths, firsts, TimesAreLeast, ChainsEndAtSource, PageIsFirstBad}
 use Rattle.search.specs.Promises.{ListAgainstDijkstra, Promised, DfPromised}

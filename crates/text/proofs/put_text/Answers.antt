@@ -1,5 +1,4 @@
-use Rattle.common.proofs.Ground.{◌≡◌, refl, ◌≤◌, ◌-◌, arith, length, paste, paste-zero}
-use Rattle.text.proofs.Placing.{paste_more, paste_all}
+use Rattle.text.proofs.Placing.{paste_more}
 use Rattle.common.proofs.Ground.{rules}
 use Rattle.text.proofs.put_text.Goals as goal
 

@@ -1,8 +1,6 @@
 -- `put_text`: after i turns the first i bytes of the text stand in the line (lib.Seq's `paste`), and after the last
 -- turn all of them. The measure is what is left of the text.
-use Rattle.common.proofs.Ground.{◌≡◌, refl, ◌≤◌, ◌-◌, arith, length, paste, paste-zero}
-use Rattle.text.proofs.Placing.{paste_more, paste_all}
-use Rattle.common.proofs.Ground.{rules}
+use Rattle.common.proofs.Ground.{◌≡◌, ◌≤◌, ◌-◌, length, paste}
 use Rattle.text.proofs.put_text.Given as goal
 
 abbrev pub invariant-loop-i : goal.invariant-loop-i

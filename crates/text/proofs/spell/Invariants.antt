@@ -1,8 +1,6 @@
 -- `spell`: at each turn the digits of the rest belong before those that stand already (proofs/Digits.antt). The
 -- measure is the place.
-use Rattle.common.proofs.Ground.{sym, ◌∙◌, ◌-◌, arith, length-set}
-use Rattle.text.proofs.Digits.{Spelling, spell_start, spell_last, spell_more}
-use Rattle.common.proofs.Ground.{rules}
+use Rattle.text.proofs.Digits.{Spelling}
 use Rattle.text.proofs.spell.Given as goal
 
 abbrev pub invariant-loop-rest : goal.invariant-loop-rest

@@ -1,0 +1,39 @@
+-- The search's reply decides: accepted, the map has no more stations than the table, and the station's time is shown;
+-- refused, the refusal's number is.
+use Rattle.common.proofs.Ground.{◌≡◌, sym, ap, ◌∙◌, arith}
+use Rattle.common.specs.Numbers.{no_time}
+use Rattle.common.proofs.Windows.{any-default}
+use Rattle.image.specs.Image.{accepted}
+use Rattle.reply.specs.Reply.{asked, Reply}
+use Rattle.panel.proofs.Answers.{found, answer_on_map, few_on_map}
+use Rattle.panel.proofs.on_map.Goals as goal
+
+pub bounds-times-station : goal.bounds-times-station
+bounds-times-station c =
+    let accepts : (found (asked c.args.image.now c.args.source c.args.strip)).reply.outcome ≡ accepted =
+    sym (ap (λ (r : Reply). r.outcome) c.in-Accepted.ensures.reply) in
+    omega (arith, few_on_map (asked c.args.image.now c.args.source c.args.strip) accepts, c.requires.inside)
+
+pub returns-in-Accepted : goal.returns-in-Accepted
+returns-in-Accepted c =
+    let accepts : (found (asked c.args.image.now c.args.source c.args.strip)).reply.outcome ≡ accepted =
+    sym (ap (λ (r : Reply). r.outcome) c.in-Accepted.ensures.reply) in
+    let few = few_on_map (asked c.args.image.now c.args.source c.args.strip) accepts in
+    record {
+      value = c.of_time.ensures.value ∙
+          rw (
+            answer_on_map (asked c.args.image.now c.args.source c.args.strip) c.args.station c.requires.inside,
+            accepts,
+            ← c.in-Accepted.ensures.times,
+            any-default c.df_times.new.times c.args.station 0 no_time
+                (omega (arith, few, c.requires.inside, c.df_times.auto.times)),
+          );
+    }
+
+pub returns-in-Refused : goal.returns-in-Refused
+returns-in-Refused c = record {
+  value = rw (
+    answer_on_map (asked c.args.image.now c.args.source c.args.strip) _ c.requires.inside,
+    ← c.in-Refused.ensures.reply,
+  );
+}
