@@ -1,6 +1,5 @@
 -- `cases_io::change_bytes` is safe and ends. From turn to turn the image keeps its length; the measure is the
 -- number of changes that are left.
-use borrow.Author.Rules.{rules}
 use mathlib.Core.Path.{◌≡◌}
 use lib.ListN.{length}
 use Rattle.cases_io.proofs.change_bytes.Given as goal

@@ -1,8 +1,7 @@
 -- By the order of the numbers of stations; where they are equal, by that of the records.
-use Rattle.common.proofs.Ground.{◌≡◌, ap, sym, ◌∙◌}
+use Rattle.common.proofs.Ground.{◌≡◌, sym, ◌∙◌}
 use Rattle.roundtrip.specs.Records.{records_of}
 use Rattle.ordering.specs.Order.{and_then, by_records, by_map}
-use Rattle.ordering.proofs.Equal.{equal_numbers}
 use Rattle.order.specs.declared.Comparison.{Comparison}
 use Rattle.order.specs.Answers.{order_in}
 use Rattle.order.proofs.by_map.Goals as goal

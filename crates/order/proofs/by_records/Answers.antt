@@ -16,19 +16,19 @@ pass_stations-u-requires c =
       second = c.requires.second;
       stations = c.requires.stations;
       begin = record {
-            first_left = records_of c.args.first.now;
-            second_left = records_of c.args.second.now;
-            first_stands = rw c.length_of-begin.ensures.value (standing_begin _ c.requires.first (first_bytes));
-            second_stands = rw c.length_of-begin.ensures.value (standing_begin _ c.requires.second (second_bytes));
-            same = refl;
-          };
+        first_left = records_of c.args.first.now;
+        second_left = records_of c.args.second.now;
+        first_stands = rw c.length_of-begin.ensures.value (standing_begin _ c.requires.first (first_bytes));
+        second_stands = rw c.length_of-begin.ensures.value (standing_begin _ c.requires.second (second_bytes));
+        same = refl;
+      };
     }
 
 pub returns : goal.returns
 returns c = record {
-      value = c.by_next.ensures.value ∙
-    next_decides _ _ _ _ _ _ c.next_record-r.result c.next_record-s.result
-    (c.next_record-r.ensures.next c.pass_stations-u.ensures.passed.walking.first_left c.pass_stations-u.ensures.passed.walking.first_stands)
-    (c.next_record-s.ensures.next c.pass_stations-u.ensures.passed.walking.second_left c.pass_stations-u.ensures.passed.walking.second_stands) c.pass_stations-u.ensures.passed.part ∙
-    sym c.pass_stations-u.ensures.passed.walking.same;
-    }
+  value = c.by_next.ensures.value ∙
+      next_decides _ _ _ _ _ _ c.next_record-r.result c.next_record-s.result
+      (c.next_record-r.ensures.next c.pass_stations-u.ensures.passed.walking.first_left c.pass_stations-u.ensures.passed.walking.first_stands)
+      (c.next_record-s.ensures.next c.pass_stations-u.ensures.passed.walking.second_left c.pass_stations-u.ensures.passed.walking.second_stands) c.pass_stations-u.ensures.passed.part ∙
+      sym c.pass_stations-u.ensures.passed.walking.same;
+}

@@ -20,11 +20,11 @@ returns-in-Whole-check c =
     → whole_check c.args.second.now ≡ o = λ o. λ is. sym c.check-in-Whole.ensures.outcome ∙ is in
     record {
       promised = promised _
-    (rw (
-      c.by_map.ensures.value,
-      first_check _ (ap outcome_of c.in-Whole.is),
-      second_check _ (ap outcome_of c.in-Whole-check.is),
-    ));
+          (rw (
+            c.by_map.ensures.value,
+            first_check _ (ap outcome_of c.in-Whole.is),
+            second_check _ (ap outcome_of c.in-Whole-check.is),
+          ));
     }
 
 pub returns-in-Refused-check : goal.returns-in-Refused-check
@@ -39,10 +39,10 @@ returns-in-Refused-check c =
     → whole_check c.args.second.now ≡ o = λ o. λ is. sym c.check-in-Whole.ensures.outcome ∙ is in
     record {
       promised = promised _
-    (rw (
-      first_check _ (ap outcome_of c.in-Whole.is),
-      second_check _ (ap outcome_of c.in-Refused-check.is),
-    ));
+          (rw (
+            first_check _ (ap outcome_of c.in-Whole.is),
+            second_check _ (ap outcome_of c.in-Refused-check.is),
+          ));
     }
 
 pub returns-in-Refused : goal.returns-in-Refused

@@ -1,6 +1,5 @@
 -- `page_test::print_readings` is safe and ends. What `of_page` requires is the function's own `requires`, since the
 -- slices stay as they are; the measure is the number of pages that are left.
-use borrow.Author.Rules.{rules}
 use Prim.Native.Nat.{◌-◌}
 use Rattle.page_test.proofs.print_readings.Given as goal
 

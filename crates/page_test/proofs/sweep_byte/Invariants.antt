@@ -1,6 +1,5 @@
 -- `page_test::sweep_byte` is safe and ends. From turn to turn the image keeps its length; the measure is the number of
 -- values that are left.
-use borrow.Author.Rules.{rules}
 use Prim.Native.Nat.{◌-◌}
 use mathlib.Core.Path.{◌≡◌}
 use lib.ListN.{length}

@@ -1,6 +1,5 @@
 -- `records_test::run_calls` is safe and ends. From turn to turn the space keeps its length; the measure is the number
 -- of turns that are left.
-use borrow.Author.Rules.{rules}
 use mathlib.Core.Path.{◌≡◌}
 use lib.ListN.{length}
 use Rattle.records_test.proofs.run_calls.Given as goal

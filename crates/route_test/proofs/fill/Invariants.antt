@@ -1,5 +1,4 @@
 -- `route_test::fill` is safe and ends. The output keeps its length; the measure is the number of entries that are left.
-use borrow.Author.Rules.{rules}
 use Prim.Native.Nat.{◌-◌}
 use mathlib.Core.Path.{◌≡◌}
 use lib.ListN.{length}

@@ -1,5 +1,4 @@
 -- `route_test::print_output` is safe and ends. The measure is the number of entries that are left.
-use borrow.Author.Rules.{rules}
 use Prim.Native.Nat.{◌-◌}
 use lib.ListN.{length}
 use Rattle.route_test.proofs.print_output.Given as goal

@@ -1,6 +1,5 @@
 -- `route_test::read_numbers` is safe and ends. The table keeps its length; the measure is the number of entries
 -- that are left.
-use borrow.Author.Rules.{rules}
 use Prim.Native.Nat.{◌-◌}
 use mathlib.Core.Path.{◌≡◌}
 use lib.ListN.{length}

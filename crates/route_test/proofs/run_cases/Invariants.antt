@@ -1,6 +1,5 @@
 -- `route_test::run_cases` is safe and ends. From turn to turn the two spaces keep their lengths; the measure is the
 -- number of turns that are left.
-use borrow.Author.Rules.{rules}
 use mathlib.Core.Path.{◌≡◌}
 use lib.ListN.{length}
 use Rattle.route_test.proofs.run_cases.Given as goal

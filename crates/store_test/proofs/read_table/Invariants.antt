@@ -1,6 +1,5 @@
 -- `store_test::read_table` is safe and ends. The table keeps its length, by which no offset is too large; the measure
 -- is the number of entries that are left.
-use borrow.Author.Rules.{rules}
 use Prim.Native.Nat.{◌-◌}
 use mathlib.Core.Path.{◌≡◌}
 use lib.ListN.{length}

@@ -1,5 +1,4 @@
 -- `tables_io::print_digest` is safe and ends. The measure is the number of entries that are left.
-use borrow.Author.Rules.{rules}
 use Prim.Native.Nat.{◌-◌}
 use lib.ListN.{length}
 use Rattle.tables_io.proofs.print_digest.Given as goal

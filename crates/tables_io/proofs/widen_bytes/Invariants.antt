@@ -1,6 +1,5 @@
 -- `tables_io::widen_bytes` is safe and ends. The table keeps its length; the measure is the number of its entries that
 -- are left.
-use borrow.Author.Rules.{rules}
 use Prim.Native.Nat.{◌-◌}
 use mathlib.Core.Path.{◌≡◌}
 use lib.ListN.{length}

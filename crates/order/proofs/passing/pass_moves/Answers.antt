@@ -1,7 +1,7 @@
-use Rattle.common.proofs.Ground.{◌≡◌, ◌-◌, length}
+use Rattle.common.proofs.Ground.{◌≡◌}
 use Rattle.by_station.specs.Next.{next_move}
 use Rattle.order.specs.declared.passing.Step.{Step}
-use Rattle.order.specs.Passing.{step_of, Passed, none, more}
+use Rattle.order.specs.Passing.{step_of, none, more}
 use Rattle.order.proofs.InCommon.{on_less}
 use Rattle.order.proofs.passing.pass_moves.Goals as goal
 

@@ -1,9 +1,9 @@
-use Rattle.common.proofs.Ground.{◌≡◌, ap, sym, ◌∙◌, subst, Bool, true, false, not-true, not-false, List, ℕ, ◌-◌, ◌≤◌}
+use Rattle.common.proofs.Ground.{◌≡◌, ap, sym, subst, Bool, true, false, ◌≤◌}
 use Rattle.common.proofs.Ground.{◌<◌, arith, length, get_or}
-use Rattle.image.specs.Image.{station_count, directory_of, page_bytes}
+use Rattle.image.specs.Image.{station_count, page_bytes}
 use Rattle.by_station.specs.Standing.{page_at}
 use Rattle.by_station.proofs.Standing.{well-formed, page_there, offset_inside}
-use Rattle.order.specs.Passing.{Walking, PassedStation}
+use Rattle.order.specs.Passing.{PassedStation}
 use Rattle.order.proofs.Walking.{station_passed, station_parted, all_passed}
 use Rattle.order.proofs.passing.pass_stations.Goals as goal
 
@@ -16,7 +16,6 @@ bounds-other_directory-u c =
       (well-formed _ c.requires.first).directory,
     ) in
     let also_due : c.loop-u.u < station_count (c.args.second.now) = omega (arith, (due), c.requires.stations) in
-   
     omega (arith, also_due, ap length c.directory_of-other_directory.ensures.part, (well-formed _ c.requires.second).directory)
 
 pub pass_station-requires : goal.pass_station-requires
@@ -53,7 +52,7 @@ returns-then-not-pass_station c =
     c.loop-u.others over c.pass_station.new.offsets c.pass_station.new.others = λ over. λ is. rw (← c.directory_of-directory.ensures.part, ← c.directory_of-other_directory.ensures.part, ← is) c.pass_station.ensures.passed in
     record {
       passed = station_parted _ _ c.requires.first c.requires.second c.requires.stations _ _ _ c.loop-u.invariant
-    (due) (passed false c.if-not-pass_station.true);
+          (due) (passed false c.if-not-pass_station.true);
     }
 
 pub loop-u-preserved : goal.loop-u-preserved
@@ -68,12 +67,11 @@ loop-u-preserved c =
     → PassedStation (page_bytes (c.args.first.now) (page_at (c.args.first.now) c.loop-u.u)) (page_at (c.args.first.now) c.loop-u.u)
     (page_bytes (c.args.second.now) (page_at (c.args.second.now) c.loop-u.u)) (page_at (c.args.second.now) c.loop-u.u) c.loop-u.offsets
     c.loop-u.others over c.pass_station.new.offsets c.pass_station.new.others = λ over. λ is. rw (← c.directory_of-directory.ensures.part, ← c.directory_of-other_directory.ensures.part, ← is) c.pass_station.ensures.passed in
-   
     station_passed _ _ c.requires.first c.requires.second c.requires.stations _ _ _ c.loop-u.invariant
     (due) (passed true c.if-not-pass_station.false)
 
 pub returns : goal.returns
 returns c = record {
-      passed = all_passed _ _ c.requires.first c.requires.second c.requires.stations _ _ _ c.loop-u.invariant
-    (omega (arith, c.loop-u-test.false, ap length c.directory_of-directory.ensures.part, (well-formed _ c.requires.first).directory));
-    }
+  passed = all_passed _ _ c.requires.first c.requires.second c.requires.stations _ _ _ c.loop-u.invariant
+      (omega (arith, c.loop-u-test.false, ap length c.directory_of-directory.ensures.part, (well-formed _ c.requires.first).directory));
+}

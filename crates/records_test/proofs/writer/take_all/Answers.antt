@@ -1,11 +1,8 @@
 use borrow.Author.Rules.{rules}
 use native.Mathlib.Omega.{arith}
-use Prim.Native.Nat.{◌-◌}
-use mathlib.Core.Path.{◌≡◌, sym, ap, ◌∙◌}
-use lib.ListN.{length}
-use Rattle.move_record.specs.Kept.{kept_from}
-use Rattle.writing.specs.Taking.{taking, take_of, taken_all}
-use Rattle.records_test.proofs.Taken.{onward, empty_length, take_first, take_next, took_all}
+use mathlib.Core.Path.{ap, ◌∙◌}
+use Rattle.writing.specs.Taking.{taking, take_of}
+use Rattle.records_test.proofs.Taken.{take_first, take_next, took_all}
 use Rattle.records_test.proofs.writer.take_all.Goals as goal
 
 pub loop-i-init : goal.loop-i-init
@@ -24,6 +21,6 @@ loop-i-preserved c =
 
 pub returns : goal.returns
 returns c = record {
-      took = took_all c.args.size c.args.records c.loop-i.i c.args.list.now c.loop-i.memory c.loop-i.count
-    c.loop-i.invariant.0 (omega (arith, c.loop-i-test.false)) c.loop-i.invariant.1;
-    }
+  took = took_all c.args.size c.args.records c.loop-i.i c.args.list.now c.loop-i.memory c.loop-i.count
+      c.loop-i.invariant.0 (omega (arith, c.loop-i-test.false)) c.loop-i.invariant.1;
+}
