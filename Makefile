@@ -9,7 +9,7 @@ run: target/coils
 	cmp target/plate.out examples/plate/expected
 	@echo 'Both examples came out as stored.'
 
-# The gate, from nothing: every crate proved, every must-fail edit refused, every program's output as stored.
+# The gate: every crate proved, every must-fail edit refused, every program's output as stored.
 test:
 	bash .ci/run
 
@@ -264,7 +264,7 @@ PREFIX ?= /usr/local
 INSTALLED := bin/coils bin/yard include/yard.h lib/libyard.a lib/pkgconfig/yard.pc share/man/man1/yard.1
 PLACE = '$(DESTDIR)$(PREFIX)'
 
-# Installs coils, yard, the header, the library, a pkg-config file and the man page below PREFIX (needs rustc, C).
+# Installs coils, yard, the header, the library, a pkg-config file and the man page below PREFIX (needs rustc).
 install: coils yard
 	mkdir -p $(foreach folder,$(sort $(dir $(INSTALLED))),$(PLACE)/$(folder))
 	install -m 755 target/coils target/yard $(PLACE)/bin
