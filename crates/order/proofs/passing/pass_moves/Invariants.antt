@@ -1,0 +1,13 @@
+-- The loop's invariant: up to the two offsets the moves are the same.
+use Rattle.common.proofs.Ground.{◌≡◌, ◌-◌, length}
+use Rattle.by_station.specs.Next.{next_move}
+use Rattle.order.specs.declared.passing.Step.{Step}
+use Rattle.order.specs.Passing.{step_of, Passed, none, more}
+use Rattle.order.proofs.InCommon.{on_less}
+use Rattle.order.proofs.passing.pass_moves.Given as goal
+
+abbrev pub invariant-loop-behind : goal.invariant-loop-behind
+invariant-loop-behind l = Passed l.first l.second l.from l.also l.at l.with
+
+abbrev pub decreases-loop-behind : goal.decreases-loop-behind
+decreases-loop-behind l = length l.first - l.at
