@@ -1,6 +1,6 @@
 -- The ten cases, as one computation: what the definitions answer, row by row, is the answer of document 01; and the
 -- law that takes out a row.
-use Rattle.common.proofs.Ground.{◌≡◌, refl, List, ◌∷◌, map, Memᴰ, Memᴰ-head, Memᴰ-tail}
+use Rattle.common.proofs.Ground.{[], ◌≡◌, refl, List, ◌∷◌, map, Memᴰ, Memᴰ-head, Memᴰ-tail}
 use Rattle.net.specs.Net.{count, changes, one_page_reads}
 use Rattle.net.specs.Search.{least, iter, reached, start, choose, choose_on, read_for, relax, relax_all, visit}
 use Rattle.net.specs.Search.{work_turn, work_through}
@@ -31,6 +31,7 @@ table = refl
 by_rows : (rows : List Case)
     → map (λ (c : Case). shown c.question c.image c.source) rows ≡ map (λ (c : Case). c.answer) rows
     → (c : Case) → Memᴰ c rows → Holds c
+by_rows [] e c x'' = elim x'' [ ]
 by_rows (r ∷ rows) e c (Memᴰ-head q) = rw q (cc)
 by_rows (r ∷ rows) e c (Memᴰ-tail m) = by_rows rows (cc) c m
 

@@ -95,6 +95,7 @@ page_left_out_lem says =
 
     agree : (p : ℕ) → Memᴰ p (0 ∷ 0 ∷ []) → AgreeOnPage p m7 m7_bad
     agree p (Memᴰ-head e) = rw e same_page
+    agree p (Memᴰ-tail (Memᴰ-tail x8)) = elim x8 [ ]
     agree p (Memᴰ-tail (Memᴰ-head e)) = rw e same_page
 
 -- Dijkstra's list from 6 is 1
@@ -142,7 +143,7 @@ faster_with_longer_lem says =
 
 -- a walk of as much time and fewer moves leads to station 3
 more_moves_lem : Refused more_moves
-more_moves_lem says = let z : 3 ≤ 2 = ((says refl).least 3 4 2 computed.short_cut).1 refl in omega arith
+more_moves_lem says = let z : 3 ≤ 2 = ((says refl).least 3 4 2 computed.short_cut_lem).1 refl in omega arith
 
 -- the predecessors spell out a walk of three moves
 predecessor_by_time_lem : Refused predecessor_by_time
@@ -183,6 +184,7 @@ all_refused =
     faster_with_longer_lem then more_moves_lem then predecessor_by_time_lem then source_overwritten_lem then in_circles_lem then no_more
 
 by_rows : (rows : List Wrong) → AllRefused rows → (w : Wrong) → Memᴰ w rows → Refused w
+by_rows [] _ w x3 = elim x3 [ ]
 by_rows (r ∷ rows) (one then others) w (Memᴰ-head e) = rw e one
 by_rows (r ∷ rows) (one then others) w (Memᴰ-tail m) = by_rows rows others w m
 
