@@ -103,12 +103,7 @@ pub fn yard_df(
 }
 
 // The stations from the source to a station, by the predecessors that a search left.
-pub fn yard_route(
-    preds: &[u16],
-    station: u16,
-    out: &mut [u16],
-    answer: &mut [u32],
-) -> u32
+pub fn yard_route(preds: &[u16], station: u16, out: &mut [u16], answer: &mut [u32]) -> u32
     ensures outcome { told result answer.new ≡
         told_by (of_route (route_call preds.now station out.old).answer) answer.old }
     ensures output { out.new ≡ (route_call preds.now station out.old).output }
