@@ -7,5 +7,5 @@ use Rattle.yard.proofs.yard_order.Goals as goal
 pub tell-requires : goal.tell-requires
 tell-requires c = record {
   small = subst Small (sym (c.of_order.ensures.value ∙ ap of_order c.compare.ensures.promised.outcome))
-      (small_order c.args.first.now c.args.second.now);
+      (small_order _ _);
 }

@@ -9,5 +9,5 @@ pub tell-requires : goal.tell-requires
 tell-requires c = record {
   small = subst Small
       (sym (c.of_route.ensures.value ∙ ap (λ (h : Handed). of_route h.answer) c.route.ensures.handed))
-      (small_route c.args.preds.now c.args.station c.args.out.now);
+      (small_route _ _ _);
 }
