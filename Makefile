@@ -9,7 +9,7 @@ run: target/coils
 	cmp target/plate.out examples/plate/expected
 	@echo 'Both examples came out as stored.'
 
-# The gate, from nothing: every crate proved, every must-fail edit refused, every program's output as stored.
+# The gate: every crate proved, every must-fail edit refused, every program's output as stored.
 test:
 	bash .ci/run
 
@@ -27,7 +27,7 @@ cases: layers
 # What would look at page bytes, by the names that the sources use: a slice under another name escapes this.
 LOOKS := \b(page|image)\[|(byte_at|word_at|part_of|command_at)\((page|image)\b
 SEE_NO_BYTES := layout queue cells relax rows page whole work reference engine tables reply \
-    search panel line coil move_record listing writing records order store telling yard
+    search panel line coil move_record listing writing records order store telling yard yard_c
 # Not among them: by_station, which reads the moves of a good page command by command, and imaging, which writes pages.
 
 # Looks in the crates that are to see no page bytes for an index of, or a byte read from, a slice called page or image.
@@ -39,9 +39,10 @@ layers:
 RATTLE := crates.txt $(shell find crates -name out -prune -o \( -name '*.rt' -o -name '*.antt' \) -print)
 LIBYARD := target/staticlib/libyard.a
 
-target/staticlib/lib%.a: $(RATTLE)
-	rt staticlib $*
-	touch $@
+$(LIBYARD): $(RATTLE)
+	cd crates/yard_c && rt lib
+	mkdir -p $(@D)
+	cp crates/yard_c/out/libyard_c.a $@
 
 # Proves the program coils and builds it, as target/coils.
 coils: target/coils
@@ -161,7 +162,7 @@ bench: target/outside/bench
 bench-peers: target/outside/bench-peers
 	target/outside/bench-peers $(ROUNDS)
 
-# Proves an earlier COMMIT= from nothing and builds its libyard.a, to be the BASE of bench (needs git).
+# Proves an earlier COMMIT= from nothing and builds its library, to be the BASE of bench (needs git).
 bench-base:
 	test -n '$(COMMIT)'
 	rm -rf target/base
@@ -169,8 +170,10 @@ bench-base:
 	git -C target/base checkout -q --detach $(COMMIT)
 	@test "$$(grep YARD_VERSION_MAJOR target/base/include/yard.h)" = "$$(grep YARD_VERSION_MAJOR include/yard.h)" || \
 	    { echo 'The C interface of $(COMMIT) has other arguments: it cannot be called by bench.'; exit 1; }
-	cd target/base && rt staticlib yard
-	@echo 'Now: make bench BASE=target/base/target/staticlib/libyard.a'
+	@test -d target/base/crates/yard_c || \
+	    { echo '$(COMMIT) was proved with an older kit: this one cannot build it.'; exit 1; }
+	cd target/base/crates/yard_c && rt lib
+	@echo 'Now: make bench BASE=target/base/crates/yard_c/out/libyard_c.a'
 
 OUTSIDE := target/outside/liboutside.rlib
 INTERFACE := target/outside/libinterface.rlib
@@ -261,7 +264,7 @@ PREFIX ?= /usr/local
 INSTALLED := bin/coils bin/yard include/yard.h lib/libyard.a lib/pkgconfig/yard.pc share/man/man1/yard.1
 PLACE = '$(DESTDIR)$(PREFIX)'
 
-# Installs coils, yard, the header, the library, a pkg-config file and the man page below PREFIX (needs rustc, C).
+# Installs coils, yard, the header, the library, a pkg-config file and the man page below PREFIX (needs rustc).
 install: coils yard
 	mkdir -p $(foreach folder,$(sort $(dir $(INSTALLED))),$(PLACE)/$(folder))
 	install -m 755 target/coils target/yard $(PLACE)/bin

@@ -1,6 +1,4 @@
--- The laws behind the functions' proofs: how small the numbers told are, and what a search or a call of the map writer
--- told so has promised.
+-- The laws behind the functions' proofs: how small the numbers told are.
 
-pub mod RecordsTold
 pub mod Small
 pub mod Told

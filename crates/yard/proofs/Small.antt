@@ -30,7 +30,6 @@ use Rattle.roundtrip.specs.Written.{WriteOutcome, said, refused_record, refused_
 use Rattle.roundtrip.specs.Written.{records_check, after_shape, write_check, writing, write_call}
 use Rattle.roundtrip.specs.Promises.{ReadPromised, WritePromised}
 use Rattle.ordering.specs.Order.{Order, first_less, equal, second_less, by_map, after_first, after_second, naming}
-use Rattle.paging.specs.Store as store
 use Rattle.paging.specs.Store.{reads_from, unfit, replay}
 use Rattle.paging.proofs.Most.{reads_most}
 use Rattle.telling.specs.Numbers.{numbers, of_outcome, of_check, of_search, of_route, of_read, of_written, of_order}

@@ -1,9 +1,10 @@
-// The C interface (include/yard.h): each call of the engine as a C function. A slice passes as a pointer and a length
-// in entries. What a call answers becomes its status and the four numbers of `answer` (telling/specs/Numbers.antt);
-// what it does to the lent tables is what the engine's call does. A search promises a C caller what it promises every
-// caller (specs/Searches.antt), of the reply that the numbers tell and of the tables as they are left. The panel's call
-// alone has no numbers: its answer is one float (panel/specs/Panel.antt, `outside`). The map writer's two calls stand
-// in writer.rt. Of the order of maps only the naming call is exported: the other hands back a slice.
+// What the C interface (include/yard.h) answers, as functions of Rattle: each call of the engine as a C caller sees it.
+// The crate `yard_c` exports them to C under the same names. What a call answers becomes its status and the four
+// numbers of `answer` (telling/specs/Numbers.antt); what it does to the lent tables is what the engine's call does. A
+// search promises a C caller what it promises every caller (specs/Searches.antt), of the reply that the numbers tell
+// and of the tables as they are left. The panel's call alone has no numbers: its answer is one float
+// (panel/specs/Panel.antt, `outside`). The map writer's two calls stand in writer.rt. Of the order of maps only the
+// naming call is here: the other hands back a slice.
 
 #![tactic(auto)]
 
@@ -24,24 +25,21 @@ pub mod writer;
 use telling::answers::{of_check, of_order, of_replay, of_route, tell, tell_search};
 
 // The whole check of a map.
-#[unsafe(no_mangle)]
-pub extern "C" fn yard_check(image: &[u8], answer: &mut [u32]) -> u32
+pub fn yard_check(image: &[u8], answer: &mut [u32]) -> u32
     ensures outcome { told result answer.new ≡ told_by (of_check (whole_check image.now)) answer.old }
 {
     tell(of_check(whole::check(image)), answer)
 }
 
 // Which of two maps is less in the order of maps, or that they are equal.
-#[unsafe(no_mangle)]
-pub extern "C" fn yard_order(first: &[u8], second: &[u8], answer: &mut [u32]) -> u32
+pub fn yard_order(first: &[u8], second: &[u8], answer: &mut [u32]) -> u32
     ensures told { OrderTold first.now second.now result answer.old answer.new }
 {
     tell(of_order(order::compare(first, second)), answer)
 }
 
 // The reads of a recorded page list in a store of some frames, for a table of page distances and a threshold.
-#[unsafe(no_mangle)]
-pub extern "C" fn yard_replay(
+pub fn yard_replay(
     list: &[u8],
     pages: usize,
     frames: usize,
@@ -59,8 +57,7 @@ pub extern "C" fn yard_replay(
 }
 
 // The plain search, Dijkstra's, for a strip of a length in decimetres.
-#[unsafe(no_mangle)]
-pub extern "C" fn yard_plain(
+pub fn yard_plain(
     image: &[u8],
     source: u16,
     strip: u16,
@@ -83,8 +80,7 @@ pub extern "C" fn yard_plain(
 }
 
 // The DF search for such a strip.
-#[unsafe(no_mangle)]
-pub extern "C" fn yard_df(
+pub fn yard_df(
     image: &[u8],
     source: u16,
     strip: u16,
@@ -107,13 +103,7 @@ pub extern "C" fn yard_df(
 }
 
 // The stations from the source to a station, by the predecessors that a search left.
-#[unsafe(no_mangle)]
-pub extern "C" fn yard_route(
-    preds: &[u16],
-    station: u16,
-    out: &mut [u16],
-    answer: &mut [u32],
-) -> u32
+pub fn yard_route(preds: &[u16], station: u16, out: &mut [u16], answer: &mut [u32]) -> u32
     ensures outcome { told result answer.new ≡
         told_by (of_route (route_call preds.now station out.old).answer) answer.old }
     ensures output { out.new ≡ (route_call preds.now station out.old).output }
@@ -122,8 +112,7 @@ pub extern "C" fn yard_route(
 }
 
 // The time to one station for the panel of the crane cabin, as one float.
-#[unsafe(no_mangle)]
-pub extern "C" fn yard_panel(image: &[u8], source: u16, strip: u16, station: u16) -> f64
+pub fn yard_panel(image: &[u8], source: u16, strip: u16, station: u16) -> f64
     ensures promised { OutsidePromised (asked image.now source strip) station result }
 {
     panel::one_float(panel::time_to(image, source, strip, station))

@@ -1,5 +1,4 @@
-// The map writer's two calls as C functions (02, C-16). A list of records passes as a pointer to them and their number;
-// a record is four numbers of 16 bits (move_record, `MoveRecord`).
+// The map writer's two calls as a C caller sees them (02, C-16).
 
 ghost use Rattle.yard.specs.Writer.{ReadTold, WriteTold};
 
@@ -7,8 +6,7 @@ use move_record::MoveRecord;
 use telling::answers::{tell_read, tell_written};
 
 // The records of an image, put at the front of a list.
-#[unsafe(no_mangle)]
-pub extern "C" fn yard_records(image: &[u8], records: &mut [MoveRecord], answer: &mut [u32]) -> u32
+pub fn yard_records(image: &[u8], records: &mut [MoveRecord], answer: &mut [u32]) -> u32
     ensures told { ReadTold image.now records.old records.new
         result answer.old answer.new }
 {
@@ -17,8 +15,7 @@ pub extern "C" fn yard_records(image: &[u8], records: &mut [MoveRecord], answer:
 }
 
 // The image of records, written into a buffer for a number of stations and of pages and a directory.
-#[unsafe(no_mangle)]
-pub extern "C" fn yard_write(
+pub fn yard_write(
     records: &[MoveRecord],
     stations: u16,
     pages: u16,
