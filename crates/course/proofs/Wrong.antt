@@ -11,7 +11,7 @@ use Rattle.net.specs.Search.{least, iter, reached, start, choose, choose_on, rea
 use Rattle.net.specs.Search.{work_turn, work_through}
 use Rattle.net.specs.Search.{plain_visit, df_visit, step_by, search_by, plain_search, df_search}
 use Rattle.image.specs.Bytes.{all_zero}
-use Rattle.image.specs.Image.{accepted, refused, on_page_lem}
+use Rattle.image.specs.Image.{accepted, refused, on_page}
 use Rattle.image.specs.Image.{AgreeOnDirectory, AgreeOnPage, directory_of, page_bytes, first_not_below, heading_check}
 use Rattle.commands.specs.Commands.{command_at}
 use Rattle.rules.specs.Rules.{first_on, next_on, judge_end, judge_station, move_fault, judge_move, judge_limited}
@@ -37,7 +37,7 @@ record Computed : Type 0 where
   page_1_is_bad : is_good (map_page course_strip m7_bad 1) ≡ false
   entries_of_page_0 : entry_stations (map_frame m7) (map_page course_strip m7) 0 (0 ∷ 1 ∷ 0 ∷ 0 ∷ 0 ∷ 1 ∷ 1 ∷ []) 0 ≡ 2
   outcome : (ours m7 0).reply.outcome ≡ accepted
-  outcome_if_bad : (ours m7_bad 0).reply.outcome ≡ refused 8 (on_page_lem 1 0)
+  outcome_if_bad : (ours m7_bad 0).reply.outcome ≡ refused 8 (on_page 1 0)
   dijkstras_list_from_6 : list_of (dijkstras m7 6) ≡ 1 ∷ []
   shorter : (searched df_search (asked m7 0 0) (lent_for m7)).reply.outcome ≡ accepted
   shorter_time : get_or (take 7 (searched df_search (asked m7 0 0) (lent_for m7)).tables.times) 6 no_time ≡ 9

@@ -4,7 +4,7 @@ use Rattle.std.specs.Prelude.{List, [], ◌∷◌, ◌++◌, ℕ, get_or, set, t
 use Rattle.common.specs.Numbers.{no_time, source_mark}
 use Rattle.net.specs.Net.{one_page_reads}
 use Rattle.net.specs.Search.{plain_search, df_search}
-use Rattle.image.specs.Image.{Place, nowhere, at_station, on_page_lem, Outcome, accepted, refused, station_count}
+use Rattle.image.specs.Image.{Place, nowhere, at_station, on_page, Outcome, accepted, refused, station_count}
 use Rattle.reply.specs.Reply.{asked, Lent, lent, Handed, searched, list_of}
 use Rattle.route.specs.Route as route
 use Rattle.route.specs.Route.{stations, unreached, turned_down, route_call}
@@ -86,7 +86,7 @@ dijkstras image source = searched plain_search (asked image source course_strip)
 abbrev place_numbers : Place → List ℕ
 place_numbers nowhere = []
 place_numbers (at_station v) = v ∷ []
-place_numbers (on_page_lem p offset) = p ∷ offset ∷ []
+place_numbers (on_page p offset) = p ∷ offset ∷ []
 
 abbrev reply_numbers : Outcome → ℕ → List ℕ
 reply_numbers accepted reached = 0 ∷ reached ∷ []

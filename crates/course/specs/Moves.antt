@@ -1,7 +1,7 @@
 -- Maps on which fewer moves decide (02, C-14), and what the searches from station 0 find there; beside them M7 and C6.
 use Rattle.std.specs.Prelude.{List, [], ◌∷◌, ◌++◌, ℕ}
 use Rattle.common.specs.Numbers.{source_mark}
-use Rattle.image.specs.Image.{Outcome, refused, on_page_lem}
+use Rattle.image.specs.Image.{Outcome, refused, on_page}
 use Rattle.reply.specs.Reply.{list_of}
 use Rattle.course.specs.Cases.{paged, ours, dijkstras}
 
@@ -102,4 +102,4 @@ of_c6 = record {
 
 -- The page of station 3 is refused, page 2; by time and number alone it would be that of station 1.
 abbrev pub fewer_moves_refused : Outcome
-fewer_moves_refused = refused 8 (on_page_lem 2 0)
+fewer_moves_refused = refused 8 (on_page 2 0)

@@ -1,7 +1,7 @@
 -- The order of maps (02, C-17) on small maps, computed: what decides it, that the same moves on other pages make an
 -- equal map, whose page lists differ, and which image is refused.
 use Rattle.std.specs.Prelude.{◌≡◌, List, [], ◌∷◌, ℕ, replicate}
-use Rattle.image.specs.Image.{on_page_lem}
+use Rattle.image.specs.Image.{on_page}
 use Rattle.move_record.specs.declared.MoveRecord.{MoveRecord}
 use Rattle.roundtrip.specs.Written.{written}
 use Rattle.reply.specs.Reply.{list_of}
@@ -38,5 +38,5 @@ pub record Ordered : Type 0 where
   -- N before any record: the first move of the map of 4 stations takes longer than that of M7
   pub by_stations : naming diamond m7 ≡ ordered first_less
   -- the first image first, and the second though N is another
-  pub both_bad : naming apart m7_bad ≡ first_refused 8 (on_page_lem 1 0)
-  pub second_bad : naming single m7_bad ≡ second_refused 8 (on_page_lem 1 0)
+  pub both_bad : naming apart m7_bad ≡ first_refused 8 (on_page 1 0)
+  pub second_bad : naming single m7_bad ≡ second_refused 8 (on_page 1 0)

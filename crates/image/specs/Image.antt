@@ -25,7 +25,7 @@ page_bytes image p = part image (4 + station_count image + 256 * p) 256
 pub data Place : Type 0 where
   nowhere : Place
   at_station : ℕ → Place
-  on_page_lem : ℕ → ℕ → Place
+  on_page : ℕ → ℕ → Place
 
 pub data Outcome : Type 0 where
   accepted : Outcome
@@ -56,7 +56,7 @@ after_heading (refused number place) following = refused number place
 abbrev pub place_of : declared.Place → Place
 place_of Nowhere = nowhere
 place_of (AtStation station) = at_station station
-place_of (OnPage page offset) = on_page_lem page offset
+place_of (OnPage page offset) = on_page page offset
 
 abbrev pub outcome_of : Checked → Outcome
 outcome_of Whole = accepted

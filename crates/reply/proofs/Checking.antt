@@ -3,7 +3,7 @@ use Rattle.common.proofs.Ground.{◌≡◌, refl, Bool, true, false, ◌||◌, L
 use Rattle.common.proofs.Ground.{◌≤◌, ◌<◌, arith, length, ltb, leb, lt-leb, ltb-false, leb-false}
 use Rattle.common.specs.Pick.{pick}
 use Rattle.common.proofs.Cases.{never}
-use Rattle.image.specs.Image.{Outcome, accepted, refused, Place, nowhere, at_station, on_page_lem}
+use Rattle.image.specs.Image.{Outcome, accepted, refused, Place, nowhere, at_station, on_page}
 use Rattle.image.specs.Image.{station_count, heading_check, after_heading}
 use Rattle.image.proofs.Heading.{heading_says}
 use Rattle.reply.specs.Reply.{Query, Lent, too_short, call_check}
@@ -13,7 +13,7 @@ abbrev pub NamesNoPage : Outcome → Type 0
 NamesNoPage accepted = Unit {0}
 NamesNoPage (refused number nowhere) = Unit {0}
 NamesNoPage (refused number (at_station station)) = Unit {0}
-NamesNoPage (refused number (on_page_lem p offset)) = ⊥
+NamesNoPage (refused number (on_page p offset)) = ⊥
 
 heading_names_no_page : (image : List ℕ) → NamesNoPage (heading_check image)
 heading_names_no_page = heading_says NamesNoPage (λ number l. tt) (λ station. tt) tt

@@ -1,6 +1,6 @@
 -- For the code: what its query asks, and the reply to a call, by how the engine's search ended.
 use Rattle.std.specs.Prelude.{Bool, true, false, List, ℕ}
-use Rattle.image.specs.Image.{accepted, refused, on_page_lem}
+use Rattle.image.specs.Image.{accepted, refused, on_page}
 use Rattle.reference.specs.declared.Query as reference
 use Rattle.engine.specs.declared.Ended.{Ended}
 use Rattle.engine.specs.declared.Ended.TheVariants.{Over, BadPage}
@@ -16,4 +16,4 @@ is_over (BadPage number p offset count) = false
 
 abbrev pub reply_to : Ended → ℕ → Reply
 reply_to (Over count) reached = reply accepted count reached
-reply_to (BadPage number p offset count) reached = reply (refused number (on_page_lem p offset)) count 0
+reply_to (BadPage number p offset count) reached = reply (refused number (on_page p offset)) count 0

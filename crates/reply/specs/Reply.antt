@@ -7,7 +7,7 @@ use Rattle.common.specs.Window.{placed}
 use Rattle.net.specs.Net.{Frame, Page}
 use Rattle.net.specs.Search as net
 use Rattle.net.specs.Search.{State, Halt, going, time_table, move_table, reached}
-use Rattle.image.specs.Image.{Outcome, accepted, refused, nowhere, on_page_lem, place_of, station_count, heading_check}
+use Rattle.image.specs.Image.{Outcome, accepted, refused, nowhere, on_page, place_of, station_count, heading_check}
 use Rattle.image.specs.Image.{after_heading}
 use Rattle.map.specs.Map.{map_frame, map_page}
 use Rattle.reply.specs.declared.Answer.{Answer}
@@ -101,7 +101,7 @@ ended going F s t =
     handed (reply accepted (length s.pages) (reached F s))
     (written F (time_table s) (move_table s) s.preds s.pages t)
 ended (net.refused number p offset) F s t =
-    handed (reply (refused number (on_page_lem p offset)) (length s.pages) 0)
+    handed (reply (refused number (on_page p offset)) (length s.pages) 0)
     (written F (replicate F.size no_time) (replicate F.size no_moves) (replicate F.size no_pred) s.pages t)
 
 -- "a table under N entries"; C-14: "a short one is refusal 7"

@@ -14,6 +14,7 @@ use image::bytes::zero_from;
 use layout::places::slot_of;
 
 // For `00`: 10 if a station is still missing, that is if the slot that is due is below the next page's; then 14.
+#[tactic(auto, unfolding(crate::specs::Rules::judge_end))]
 fn judge_end(page: &[u8], at: usize, past: usize, due: usize) -> Command
     requires short { length page.now ≤ 256 }
     ensures value { result ≡ judge_end past due (drop at page.now) }
@@ -49,6 +50,7 @@ fn judge_station(directory: &[u8], places: &[u16], past: usize, due: usize, v: u
 }
 
 // For `02` and `03`: 11, 12; 0 for none of these. Any time will do, and 0 too.
+#[tactic(auto, unfolding(crate::specs::Rules::move_fault))]
 fn move_fault(size: usize, after: usize, least: usize, m: Move) -> u8
     ensures value { result ≡ move_fault size after least m }
 {
@@ -69,6 +71,7 @@ fn move_fault(size: usize, after: usize, least: usize, m: Move) -> u8
 }
 
 // For `02`: these.
+#[tactic(auto, unfolding(crate::specs::Rules::judge_move))]
 fn judge_move(size: usize, after: usize, least: usize, m: Move) -> Command
     ensures value { result ≡ judge_move size after least m }
 {
@@ -80,6 +83,7 @@ fn judge_move(size: usize, after: usize, least: usize, m: Move) -> Command
 }
 
 // For `03`: these, then 18.
+#[tactic(auto, unfolding(crate::specs::Rules::judge_limited))]
 fn judge_limited(size: usize, after: usize, least: usize, m: Move) -> Command
     ensures value { result ≡ judge_limited size after least m }
 {

@@ -17,7 +17,7 @@ use Rattle.net.proofs.Chains.{chains_end}
 use Rattle.net.proofs.Laws.{same_halt, df_list}
 use Rattle.net.proofs.Ways.{same_tables, same_reached, fewer_moves_no_more}
 use Rattle.image.specs.Bytes.{Bytes}
-use Rattle.image.specs.Image.{Outcome, accepted, refused, on_page_lem, station_count}
+use Rattle.image.specs.Image.{Outcome, accepted, refused, on_page, station_count}
 use Rattle.image.specs.Image.{AgreeOnHeading, AgreeOnDirectory, AgreeOnPage}
 use Rattle.image.proofs.Agree.{stations_agree, heading_agrees}
 use Rattle.page.proofs.Agree.{reading_agrees}
@@ -45,7 +45,7 @@ module _ (F : Frame) (s : State) (t : Lent) where
   over going e = refl
   over (net.refused number p offset) e = never (cc)
 
-  stopped : (h : Halt) (number p offset : ℕ) → (ended h F s t).reply.outcome ≡ refused number (on_page_lem p offset)
+  stopped : (h : Halt) (number p offset : ℕ) → (ended h F s t).reply.outcome ≡ refused number (on_page p offset)
       → h ≡ net.refused number p offset
   stopped going number p offset e = never (cc)
   stopped (net.refused n b o) number p offset e = cc
@@ -188,7 +188,7 @@ module _ (q : Query) (t : Lent) (bytes : Bytes q.image) where
   either_search df o (turned_down number place k) = (
     λ e. never (cc),
     λ e. never (cc),
-    λ n p at e. let same : place ≡ on_page_lem p at = cc in absurd (rw same at k),
+    λ n p at e. let same : place ≡ on_page p at = cc in absurd (rw same at k),
   )
   either_search df o (passed a) =
       (least_on_map q t a bytes df, chains_on_map q t a bytes df, refused_on_map q t a bytes df)

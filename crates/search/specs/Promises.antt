@@ -7,7 +7,7 @@ use Rattle.common.specs.Numbers.{no_time}
 use Rattle.common.specs.Chains.{ChainsEnd}
 use Rattle.net.specs.Search.{plain_search, df_search}
 use Rattle.net.specs.Demands.{LeastTimes, RefusedPage, ListOf}
-use Rattle.image.specs.Image.{accepted, refused, on_page_lem, station_count, AgreeOnHeading, AgreeOnDirectory, AgreeOnPage}
+use Rattle.image.specs.Image.{accepted, refused, on_page, station_count, AgreeOnHeading, AgreeOnDirectory, AgreeOnPage}
 use Rattle.reply.specs.Reply.{Query, with_image, with_strip, frame_of, pages_of, NetSearch, Lent, Handed}
 use Rattle.reply.specs.Reply.{searched, list_of}
 
@@ -41,7 +41,7 @@ module _ (q : Query) where
   -- only stations on good pages", C-14: by time, then moves, and then number; it stands last in the list
   abbrev pub PageIsFirstBad : Handed → Type 0
   PageIsFirstBad h =
-      (number p offset : ℕ) → h.reply.outcome ≡ refused number (on_page_lem p offset)
+      (number p offset : ℕ) → h.reply.outcome ≡ refused number (on_page p offset)
       → RefusedPage (frame_of q) (pages_of q) q.source number p offset
       × ((before : List ℕ) × (list_of h ≡ before ++ (p ∷ [])))
 

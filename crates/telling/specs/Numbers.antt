@@ -1,7 +1,7 @@
 -- What the C interface makes of an outcome: a status and four numbers. The quoted words are those of include/yard.h.
 use Rattle.std.specs.Prelude.{List, ◌∷◌, ℕ, ◌/◌, ◌%◌, ◌<◌, ltb, length, drop}
 use Rattle.common.specs.Pick.{pick}
-use Rattle.image.specs.Image.{nowhere, at_station, on_page_lem, Outcome, accepted, refused}
+use Rattle.image.specs.Image.{nowhere, at_station, on_page, Outcome, accepted, refused}
 use Rattle.route.specs.Route as route
 use Rattle.reply.specs.Reply.{Reply}
 use Rattle.roundtrip.specs.Written.{WriteOutcome, said, refused_record, refused_page}
@@ -19,7 +19,7 @@ abbrev pub of_outcome : Outcome → ℕ → ℕ → Numbers
 of_outcome accepted count reached = numbers 0 count reached 0 0
 of_outcome (refused number nowhere) count reached = numbers number count reached 0 0
 of_outcome (refused number (at_station station)) count reached = numbers number count reached station 0
-of_outcome (refused number (on_page_lem p offset)) count reached = numbers number count reached p offset
+of_outcome (refused number (on_page p offset)) count reached = numbers number count reached p offset
 
 abbrev pub of_check : Outcome → Numbers
 of_check outcome = of_outcome outcome 0 0

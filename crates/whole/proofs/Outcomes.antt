@@ -2,7 +2,7 @@
 -- most, as that of a page's fault is; and 13 "no longer occurs" (C-15).
 use Rattle.common.proofs.Ground.{◌≡◌, List, ℕ, zero, suc, ◌≤◌, arith}
 use Rattle.common.proofs.Cases.{never}
-use Rattle.image.specs.Image.{Place, Outcome, accepted, refused, nowhere, at_station, on_page_lem, heading_check}
+use Rattle.image.specs.Image.{Place, Outcome, accepted, refused, nowhere, at_station, on_page, heading_check}
 use Rattle.image.specs.Image.{after_heading, page_count}
 use Rattle.page.specs.Reading.{Reading, good, bad, reading_of}
 use Rattle.whole.specs.Check.{page_outcome, pages_from, whole_check}
@@ -13,7 +13,7 @@ use Rattle.page.proofs.Offsets.{FaultBy, reading_by_256}
 module _ (Says : Outcome → Type 0)
     (heading : (number : ℕ) → number ≤ 4 → Says (refused number nowhere))
     (directory : (station : ℕ) → Says (refused 5 (at_station station)))
-    (fault : (number p offset : ℕ) → PageNumber number → offset ≤ 256 → Says (refused number (on_page_lem p offset)))
+    (fault : (number p offset : ℕ) → PageNumber number → offset ≤ 256 → Says (refused number (on_page p offset)))
     (whole : Says accepted) (image : List ℕ) where
   page_says : (p : ℕ) (r : Reading) (following : Outcome) → FaultBy 256 r → Says following
       → Says (page_outcome p r following)
@@ -41,7 +41,7 @@ abbrev pub PlaceBy256 : Outcome → Type 0
 PlaceBy256 accepted = Unit {0}
 PlaceBy256 (refused number nowhere) = Unit {0}
 PlaceBy256 (refused number (at_station station)) = Unit {0}
-PlaceBy256 (refused number (on_page_lem p offset)) = offset ≤ 256
+PlaceBy256 (refused number (on_page p offset)) = offset ≤ 256
 
 pub whole_by_256 : (image : List ℕ) → PlaceBy256 (whole_check image)
 whole_by_256 = whole_says PlaceBy256 (λ number l. tt) (λ station. tt) (λ number p offset k short. short) tt

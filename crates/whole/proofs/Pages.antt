@@ -3,14 +3,14 @@
 use Rattle.common.proofs.Ground.{◌≡◌, refl, List, ℕ, suc, ◌+◌, ◌-◌, ◌≤◌, ◌<◌, arith, add-one}
 use Rattle.page.specs.declared.Verdict.{Verdict}
 use Rattle.page.specs.declared.Verdict.TheVariants.{Good, Bad}
-use Rattle.image.specs.Image.{Outcome, accepted, refused, on_page_lem}
+use Rattle.image.specs.Image.{Outcome, accepted, refused, on_page}
 use Rattle.page.specs.Reading.{Reading, good, bad, reading_of, verdict_of}
 use Rattle.whole.specs.Check.{page_outcome, pages_from}
 
 -- The outcome of page p by its verdict, and behind it that of what follows.
 abbrev pub outcome_by : ℕ → Verdict → Outcome → Outcome
 outcome_by p Good following = following
-outcome_by p (Bad number offset) following = refused number (on_page_lem p offset)
+outcome_by p (Bad number offset) following = refused number (on_page p offset)
 
 outcome_by_lem : (p : ℕ) (r : Reading) (following : Outcome)
     → page_outcome p r following ≡ outcome_by p (verdict_of r) following

@@ -1,12 +1,12 @@
 -- The whole check: "does 1 to 5, then the pages by rising number" (01, "Route, whole check, program").
 use Rattle.std.specs.Prelude.{List, ℕ, zero, suc}
-use Rattle.image.specs.Image.{Outcome, accepted, refused, on_page_lem, heading_check, after_heading, page_count}
+use Rattle.image.specs.Image.{Outcome, accepted, refused, on_page, heading_check, after_heading, page_count}
 use Rattle.page.specs.Reading.{Reading, good, bad, reading_of}
 
 -- The outcome of one page, and behind it that of what follows where the page is good.
 abbrev pub page_outcome : ℕ → Reading → Outcome → Outcome
 page_outcome p (good moves stations) following = following
-page_outcome p (bad number offset) following = refused number (on_page_lem p offset)
+page_outcome p (bad number offset) following = refused number (on_page p offset)
 
 -- So many pages by rising number, from page p on.
 unfoldable pub pages_from : List ℕ → ℕ → ℕ → Outcome

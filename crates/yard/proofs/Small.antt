@@ -12,7 +12,7 @@ use Rattle.net.specs.Search.{State, Halt, going, reached, has_time}
 use Rattle.net.specs.Run.{search_of}
 use Rattle.net.proofs.Basics.Count.{count-le}
 use Rattle.image.specs.Bytes.{Bytes}
-use Rattle.image.specs.Image.{Outcome, accepted, refused, Place, nowhere, at_station, on_page_lem, first_not_below}
+use Rattle.image.specs.Image.{Outcome, accepted, refused, Place, nowhere, at_station, on_page, first_not_below}
 use Rattle.image.specs.Image.{after_heading}
 use Rattle.whole.specs.Check.{whole_check}
 use Rattle.whole.proofs.Outcomes.{PlaceBy256, whole_by_256}
@@ -47,7 +47,7 @@ by_place accepted count reached few less k = sized 0 count reached 0 0 few less 
 by_place (refused number nowhere) count reached few less k = sized number count reached 0 0 few less (omega arith)
 by_place (refused number (at_station station)) count reached few less k =
     sized number count reached station 0 few less (omega arith)
-by_place (refused number (on_page_lem p offset)) count reached few less k = sized number count reached p offset few less k
+by_place (refused number (on_page p offset)) count reached few less k = sized number count reached p offset few less k
 
 pub small_check : (image : List ℕ) → Small (of_check (whole_check image))
 small_check image = by_place (whole_check image) 0 0 (omega arith) (omega arith) (whole_by_256 image)
@@ -149,7 +149,7 @@ small_place : (number : ℕ) (place : Place) → NamesNoPage (refused number pla
     → Small (of_outcome (refused number place) 0 0)
 small_place number nowhere k = no_numbers number 0
 small_place number (at_station station) k = no_numbers number station
-small_place number (on_page_lem p offset) k = absurd k
+small_place number (on_page p offset) k = absurd k
 
 module _ (q : Query) (t : Lent) where
   ended_small : (h : Halt) (s : State) → s.halt ≡ h → (frame_of q).size ≤ 2048 → length s.pages ≤ (frame_of q).size
