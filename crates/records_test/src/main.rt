@@ -1,6 +1,6 @@
 // Runs the reader and the writer of move records (02, C-16) over cases from standard input and prints the whole of what
-// each call handed back: its answer, the records that were read, every byte of the buffer that was lent. Lists of
-// records cannot be lent here, so the cases go to the functions below the public calls, in the order of these.
+// each call handed back: its answer, the records that were read, every byte of the buffer that was lent. The cases go
+// to the functions below the public calls, in the order of these.
 // tests/make_records_cases.py writes the cases and, by rules of its own, the text that this program must print.
 //
 // The input is a row of cases, as the crate cases_io reads maps: a label, the bytes of the case, and its calls. A call
