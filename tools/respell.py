@@ -31,6 +31,16 @@ LEMMAS = {
     "course": {"fixed_answer": "fixed_answer_lem", "none_left": "none_left_lem", "short_cut": "short_cut_lem"},
 }
 
+# Names that the rule for lemmas gave `_lem`, though they are a constructor or fields: by crate, what they are called.
+AGAIN = {
+    **{c: {"on_page_lem": "on_page"} for c in "image whole reply search telling yard".split()},
+    "course": {"on_page_lem": "on_page", "by_station_lem": "by_station", "no_route_lem": "no_route"},
+    "imaging": {"by_station_lem": "by_station"},
+    "work": {"in_hand_lem": "in_hand"},
+    "reference": {"in_hand_lem": "in_hand"},
+    "panel": {"no_route_lem": "no_route"},
+}
+
 
 def files(top, ends):
     for folder, dirs, names in os.walk(top):
@@ -123,7 +133,10 @@ def main():
         for a, b in LEMMAS.get(p.split("/")[1], {}).items():
             if p.endswith(".antt") and "/proofs/" in p:
                 s = re.sub(r"(?<![\w'\-.])" + a + r"(?![\w'\-])", b, s)
-        put(p, keys.sub(lambda m: turn[m[1]], s), t)
+        s = keys.sub(lambda m: turn[m[1]], s)
+        for a, b in AGAIN.get(p.split("/")[1], {}).items():
+            s = re.sub(r"(?<![\w'\-])" + a + r"(?![\w'\-])", b, s)
+        put(p, s, t)
     for p in ["README.md", *files("docs", (".md",))]:
         t = read(p)
         put(p, re.sub(r"`[^`\n]+`", lambda m: keys.sub(lambda k: turn[k[1]], m[0]), t), t)

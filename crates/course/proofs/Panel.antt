@@ -22,7 +22,7 @@ use Rattle.course.specs.Limits.{m7_limited}
 pub record Shown : Type 0 where
   pub m7_time : answer_to (asked m7 0 course_strip) 6 ≡ time 9
   pub longer_strip : answer_to (asked m7_limited 0 10001) 6 ≡ time 14
-  pub no_route_lem : answer_to (asked m7 6 course_strip) 0 ≡ unreached
+  pub no_route : answer_to (asked m7 6 course_strip) 0 ≡ unreached
   pub no_such_source : answer_to (asked m7 7 course_strip) 0 ≡ turned_down 6
   pub no_such_station : answer_to (asked m7 0 course_strip) 7 ≡ turned_down 6
   -- behind a heading that is refused, and before any page
@@ -39,7 +39,7 @@ unfolding answer_to count least iter reached start choose choose_on read_for rel
 shown = record {
   m7_time = refl;
   longer_strip = refl;
-  no_route_lem = refl;
+  no_route = refl;
   no_such_source = refl;
   no_such_station = refl;
   behind_1 = refl;

@@ -25,7 +25,7 @@ unfolding all_zero directory_of page_bytes first_not_below command_at first_on n
 drawn = record {
   m7_read = refl;
   m7-written = refl;
-  by_station_lem = refl;
+  by_station = refl;
   good_three = refl;
   from_not_below = refl;
   target_not_below = refl;

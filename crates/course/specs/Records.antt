@@ -32,7 +32,7 @@ pub record Drawn : Type 0 where
   pub m7_read : records_of m7 ≡ m7_moves
   pub m7-written : written 7 2 m7_directory m7_moves ≡ m7
   -- stations 0 and 3 share a page, and the records are still by rising from; 2-3 has a limit
-  pub by_station_lem : records_of through_three_pages
+  pub by_station : records_of through_three_pages
       ≡ move 0 1 0 ∷ move 0 3 5 ∷ move 1 2 0 ∷ move 2 0 0 ∷ record { from = 2; target = 3; time = 0; limit = 9000 } ∷ []
   -- 19, each way, with the index of the first record at fault
   pub good_three : of_three (move 0 1 4 ∷ move 0 2 4 ∷ move 1 0 4 ∷ []) ≡ said accepted

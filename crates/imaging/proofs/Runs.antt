@@ -100,19 +100,19 @@ run_later (r ∷ rs) u v h =
 -- What is left at station u: records by rising station from u on, with all moves of u and of the stations behind it.
 pub record LeftFor (records : List MoveRecord) (kept : List ℕ) (count k u : ℕ) : Type 0 where
   pub inside : k ≤ count
-  pub by_station_lem : ByStation u (left_at kept count k)
+  pub by_station : ByStation u (left_at kept count k)
   pub all_moves : (v : ℕ) → u ≤ v → moves_for (left_at kept count k) v ≡ moves_for records v
 
 module _ (kept : List ℕ) (count : ℕ) where
   pub left_all : ByStation 0 (kept_from kept count 0) → LeftFor (kept_from kept count 0) kept count 0 0
   left_all b =
       let e : count - 0 ≡ count = omega arith in
-      record { inside = omega arith; by_station_lem = rw e b; all_moves = λ v h. rw e }
+      record { inside = omega arith; by_station = rw e b; all_moves = λ v h. rw e }
 
   module _ (records : List MoveRecord) (k u : ℕ) (l : LeftFor records kept count k u) where
     pub left_run : run_at kept count k u ≡ moves_for records u
     unfolding run_at
-    left_run = sym (run_all (left_at kept count k) u l.by_station_lem) ∙ l.all_moves u (omega arith)
+    left_run = sym (run_all (left_at kept count k) u l.by_station) ∙ l.all_moves u (omega arith)
 
     pub left_next : LeftFor records kept count (k + length (run_at kept count k u)) (suc u)
     unfolding run_at
@@ -120,7 +120,7 @@ module _ (kept : List ℕ) (count : ℕ) where
         let run = length (run_of (left_at kept count k) u) in
         record {
           inside = omega (arith, run_length (left_at kept count k) u, kept_length kept (count - k) k, l.inside);
-          by_station_lem = rw (← (left_behind kept count k run)) (run_behind (left_at kept count k) u l.by_station_lem);
+          by_station = rw (← (left_behind kept count k run)) (run_behind (left_at kept count k) u l.by_station);
           all_moves = λ v h.
               rw (← (left_behind kept count k run))
               (run_later (left_at kept count k) u v (omega arith) ∙ l.all_moves v (omega arith));

@@ -8,5 +8,5 @@ pub record Fitting (directory : List ℕ) (records : List MoveRecord) (room : �
   pub whole : room ≡ 256 * (room / 256)
   pub stations_most : length directory ≤ 2048
   pub paged : (u : ℕ) → u < length directory → get_or directory u 0 < room / 256
-  pub by_station_lem : ByStation 0 records
+  pub by_station : ByStation 0 records
   pub all_fit : (p : ℕ) → p < room / 256 → need_of directory records p ≤ 256

@@ -130,7 +130,7 @@ module _ (q : Query) (station : ℕ) {A : Type 0} (answer : Answer → A) (Reads
       exact = subst (Reads (answer a)) is (exact a k);
       walks = record {
         time = λ n reads. let l = least_of (as_read reads) in (l.1, l.2);
-        no_route_lem = λ reads. none_of (as_read reads);
+        no_route = λ reads. none_of (as_read reads);
         no_walk = no_walk a k (exact a k);
         pages_good = all_good a k (exact a k);
       };

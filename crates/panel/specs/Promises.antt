@@ -40,7 +40,7 @@ module _ (q : Query) (station : ℕ) (Reads : Answer → Type 0) where
     -- a time is that of a walk to the station, and no walk is shorter
     pub time : (n : ℕ) → Reads (time n) → LeadsTo q station n × ((c : ℕ) → LeadsTo q station c → n ≤ c)
     -- there is no route exactly when no walk leads there
-    pub no_route_lem : Reads unreached → (c : ℕ) → LeadsTo q station c → ⊥
+    pub no_route : Reads unreached → (c : ℕ) → LeadsTo q station c → ⊥
     pub no_walk : NotRefused → ((c : ℕ) → LeadsTo q station c → ⊥) → Reads unreached
     -- the page of every station with a walk is good: a walk leaves only such stations, so that no walk is left out
     pub pages_good : NotRefused → (v c : ℕ) → LeadsTo q v c → is_good (pages_of q ((frame_of q).page_of v)) ≡ true

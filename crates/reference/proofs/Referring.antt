@@ -91,7 +91,7 @@ module _ (query : Query) (image : List ℕ) {k key u p : ℕ} {places : List ℕ
         moves = moves;
         turns = 0;
         state = with_page p (state_after (serving query image) k);
-        in_hand_lem = rw n.on at (hand_begins n.stands.board.placing.sound query.df k n.first moves
+        in_hand = rw n.on at (hand_begins n.stands.board.placing.sound query.df k n.first moves
             (rw n.on (ap (offered query.strip) laid.reads)));
         count = omega arith;
         size = known.size;

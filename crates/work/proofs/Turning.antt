@@ -68,10 +68,10 @@ module _ {q : Serving} {k p left least : ℕ} {places layout : List ℕ} {m : Me
     turns_more = omega (arith, h.count)
 
     inside : x < length q.directory
-    inside = visit-inside ok h.in_hand_lem first_x
+    inside = visit-inside ok h.in_hand first_x
 
     on : get_or q.directory x 0 ≡ p
-    on = visit_on ok h.in_hand_lem first_x
+    on = visit_on ok h.in_hand first_x
 
     laid : Laid layout p x (rows_of (h.moves x))
     laid = h.rows x inside on
@@ -79,7 +79,7 @@ module _ {q : Serving} {k p left least : ℕ} {places layout : List ℕ} {m : Me
     in_cell : get_or m.cells x 0 / 2048 ≡ held
     in_cell =
         let c = (h.board.station x inside).0 in
-        let timed = visit_timed ok h.in_hand_lem first_x in
+        let timed = visit_timed ok h.in_hand first_x in
         dite (ℕ_discrete x q.source) (λ e. omega (arith, (c.own e).0, (c.own e).2))
         (λ n. omega (arith, (c.timed n timed).0, (c.timed n timed).1))
 
@@ -89,7 +89,7 @@ module _ {q : Serving} {k p left least : ℕ} {places layout : List ℕ} {m : Me
       part = relax_all F ltb x before stopped
 
       leads : next.target < length q.directory
-      leads = (visit-move ok h.in_hand_lem first_x turns_more before rest next split).target
+      leads = (visit-move ok h.in_hand first_x turns_more before rest next split).target
 
       target : entry_of next.time next.target % 2048 ≡ next.target
       target = omega (arith, leads, d.few)
@@ -99,12 +99,12 @@ module _ {q : Serving} {k p left least : ℕ} {places layout : List ℕ} {m : Me
           (held + cost (entry_of next.time next.target / 2048) 1) a b
           → Board q places hand (relax F ltb x next part) b
       move_board board r =
-          let n = visit-move ok h.in_hand_lem first_x turns_more before rest next split in
-          let same = visit_time ok h.in_hand_lem first_x turns_more before (next ∷ rest) split in
-          let standing = visit_standing ok h.in_hand_lem first_x turns_more before (next ∷ rest) split in
+          let n = visit-move ok h.in_hand first_x turns_more before rest next split in
+          let same = visit_time ok h.in_hand first_x turns_more before (next ∷ rest) split in
+          let standing = visit_standing ok h.in_hand first_x turns_more before (next ∷ rest) split in
           let net = rw same at (relax_relaxed F x next part standing.sizes leads) in
           let goes : Goes F q.page x next.target next.time =
-          rw (on, h.in_hand_lem.content, split) (Memᴰ-append_right before (Memᴰ-head refl)) in
+          rw (on, h.in_hand.content, split) (Memᴰ-append_right before (Memᴰ-head refl)) in
           let takes : entry_of next.time next.target / 2048 ≡ next.time = omega (arith, leads, d.few) in
           relaxed_board board (omega arith) leads (omega arith) n.sum_below net n.wakes
           (rw (target, takes) at r)
@@ -132,7 +132,7 @@ module _ {q : Serving} {k p left least : ℕ} {places layout : List ℕ} {m : Me
     place = placed_at h.board.placing x inside
 
     costs : get_or m.cells x 0 / 2048 + longest < most_cost
-    costs = let timed = visit_timed ok h.in_hand_lem first_x in let is = in_cell in omega arith
+    costs = let timed = visit_timed ok h.in_hand first_x in let is = in_cell in omega arith
 
     row : LaidOut places layout x
     row = record {
@@ -147,7 +147,7 @@ module _ {q : Serving} {k p left least : ℕ} {places layout : List ℕ} {m : Me
 
     -- The station stops waiting, and its moves are relaxed.
     stopped_stands : Board q places p stopped (without_waiting places x m)
-    stopped_stands = stopped_board h.board inside on (visit_stops ok h.in_hand_lem first_x)
+    stopped_stands = stopped_board h.board inside on (visit_stops ok h.in_hand first_x)
 
     pub turned : {after : Memory} {u lo hi least' : ℕ} → u ≡ x → Visited places layout u m after
         → lo ≡ first_slot places p → hi ≡ first_slot places (p + 1)
@@ -158,7 +158,7 @@ module _ {q : Serving} {k p left least : ℕ} {places layout : List ℕ} {m : Me
       moves = h.moves;
       turns = suc h.turns;
       state = visit_of q.df F h.moves x h.state;
-      in_hand_lem = hand_turn ok h.in_hand_lem first_x turns_more;
+      in_hand = hand_turn ok h.in_hand first_x turns_more;
       count = omega (arith, h.count);
       size = h.size;
       page = h.page;
@@ -186,7 +186,7 @@ module _ {q : Serving} {k p left least : ℕ} {places layout : List ℕ} {m : Me
           → Stands q (suc k) places after
       unfolding visit_of relax_all
       last_turn one relaxing =
-          let hand = hand_turn ok h.in_hand_lem first_x turns_more in
+          let hand = hand_turn ok h.in_hand first_x turns_more in
           let same = hand_made ok hand (omega (arith, h.count)) in
           let moves = rw (leaf.named, in_cell, laid.entries) at relaxing in
           record {
@@ -200,10 +200,10 @@ module _ {q : Serving} {k p left least : ℕ} {places layout : List ℕ} {m : Me
   over {queue} e put =
       let same = reached e in
       record {
-        going = rw same at (hand_going ok h.in_hand_lem);
+        going = rw same at (hand_going ok h.in_hand);
         board = rw same at (left_board h.board h.page (rw h.key at put));
       }
     where
       reached : (left ≡ 0) ⊎ (nobody ≤ least) → h.state ≡ state_after q (suc k)
-      reached (inl none_left) = hand_made ok h.in_hand_lem (omega (arith, h.count))
-      reached (inr nobody_left) = hand_stops ok h.in_hand_lem (first-is ∙ simp (le-ltb least nobody nobody_left))
+      reached (inl none_left) = hand_made ok h.in_hand (omega (arith, h.count))
+      reached (inr nobody_left) = hand_stops ok h.in_hand (first-is ∙ simp (le-ltb least nobody nobody_left))

@@ -26,7 +26,7 @@ pub record Hand (q : Serving) (k p : ℕ) (places layout : List ℕ) (left least
   pub moves : ℕ → List Move
   pub turns : ℕ
   pub state : State
-  pub in_hand_lem : InHand q.df (frame_of q) q.page q.source k p moves turns state
+  pub in_hand : InHand q.df (frame_of q) q.page q.source k p moves turns state
   pub count : turns + left ≡ turn_limit q.df (frame_of q)
   pub size : length layout ≡ 17152
   pub page : p < 256

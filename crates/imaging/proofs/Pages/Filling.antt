@@ -53,7 +53,7 @@ module _ (kept : List ℕ) (count : ℕ) (directory : List ℕ) (room : ℕ) whe
         let all : length bytes ≡ 256 * pages = omega (arith, fitting.whole) in
         record {
           inside = omega arith;
-          left = left_all kept count fitting.by_station_lem;
+          left = left_all kept count fitting.by_station;
           ends_length = ap length none;
           ends_said = λ p h. ap (λ l. get_or l p 0) none ∙ no_entry 256 p ∙ sym (said_nothing records p);
           pages =

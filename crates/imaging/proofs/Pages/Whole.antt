@@ -33,7 +33,7 @@ module _ (size pages : ℕ) (directory : List ℕ) (records : List MoveRecord) (
         whole = omega (arith, behind_length image same);
         stations_most = omega (arith, shaped.directory_length, shaped.stations_most);
         paged = λ u h. omega (arith, shaped.paged u (omega (arith, shaped.directory_length)));
-        by_station_lem = rising_by_station size records writable.all_rising;
+        by_station = rising_by_station size records writable.all_rising;
         all_fit = λ p h. writable.all_fit p (omega arith);
       }
 
