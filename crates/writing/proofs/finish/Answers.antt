@@ -58,7 +58,7 @@ returns-then-page-pages c =
           (refused_page 20 c.first_full-page.result)
           (full_page c.args.size c.args.kept.now c.args.count list took c.args.pages c.args.directory.now
           (length c.args.image.now) (shape_accepted) (omega (arith, c.if-count-records.false))
-          c.first_full-page.result c.first_full-page.ensures.page c.if-page-pages.true)
+          c.first_full-page.result c.first_full-page.ensures.page (omega (arith, c.if-page-pages.true)))
           (λ image. refl) (λ e. never (cc));
     }
 
@@ -70,7 +70,7 @@ write_image-requires c =
     → Accepted c.args.size c.args.kept.now c.args.count list c.args.pages c.args.directory.now
     (length c.args.image.now) = λ list. λ long. λ took. accepted_list c.args.size c.args.kept.now c.args.count list took c.args.pages c.args.directory.now
     (length c.args.image.now) (shape_accepted) (omega (arith, c.if-count-records.false))
-    c.first_full-page.result c.first_full-page.ensures.page c.if-page-pages.false in
+    c.first_full-page.result c.first_full-page.ensures.page (omega (arith, c.if-page-pages.false)) in
     let ready = none_left c.requires.taken.list c.requires.taken.all c.requires.taken.taken in record {
       memory = omega (arith, ready.few);
       shaped = ready.shaped;
@@ -85,7 +85,7 @@ returns c =
     → Accepted c.args.size c.args.kept.now c.args.count list c.args.pages c.args.directory.now
     (length c.args.image.now) = λ list. λ long. λ took. accepted_list c.args.size c.args.kept.now c.args.count list took c.args.pages c.args.directory.now
     (length c.args.image.now) (shape_accepted) (omega (arith, c.if-count-records.false))
-    c.first_full-page.result c.first_full-page.ensures.page c.if-page-pages.false in
+    c.first_full-page.result c.first_full-page.ensures.page (omega (arith, c.if-page-pages.false)) in
     record {
       promised = λ list long took. let ready = none_left list long took in
           let fit = kept_fit c.args.kept.now c.args.count list (λ j. omega (arith, c.type_inv.kept j)) ready.list_kept in
