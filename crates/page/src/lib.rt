@@ -11,7 +11,7 @@ ghost use Rattle.page.specs.Laying.{PageLaid, OthersKept};
 
 pub mod reader;
 
-use image::{Fault, directory_of, page_of};
+use image::{BadPage, Fault, directory_of, page_of};
 use reader::read_page;
 
 // The first command at fault of a page.
@@ -19,6 +19,21 @@ use reader::read_page;
 pub struct BadCommand {
     pub fault: Fault,
     pub offset: usize,
+}
+
+impl BadCommand {
+    // The same, with the page that it stands on.
+    pub fn on_page(self, page: u8) -> BadPage
+        ensures fault { result.fault ≡ self.fault }
+        ensures page { result.page ≡ page }
+        ensures offset { result.offset ≡ self.offset }
+    {
+        BadPage {
+            fault: self.fault,
+            page,
+            offset: self.offset,
+        }
+    }
 }
 
 // Reads page p of an image whose stations are placed, for a strip of a given length (reader.rt).
