@@ -94,6 +94,7 @@ fn judge_limited(size: usize, after: usize, least: usize, m: Move) -> Result<Com
 }
 
 // The command at an offset, or its fault, of whichever page the slots due and past are.
+#[tactic(auto, using(crate::proofs::Due::judged_end_by_slot), unfolding(crate::specs::Rules::judged_at, crate::specs::Rules::judge))]
 pub fn judged_at(
     directory: &[u8],
     places: &[u16],
