@@ -9,7 +9,7 @@ use Rattle.net.specs.Search.{start, iter}
 use Rattle.net.specs.Run.{search_of, unmarked, first_waiting}
 use Rattle.net.proofs.Steps.Waiting.{nobody_refused}
 use Rattle.net.proofs.Runs.{run_is_search, run_stops}
-use Rattle.cells.specs.Cells.{Memory}
+use Rattle.cells.specs.declared.Memory.{Memory}
 use Rattle.reference.specs.declared.Query.{Query}
 use Rattle.reference.specs.declared.Reference.TheVariants.{NobodyWaits, Made, Bad}
 use Rattle.engine.specs.declared.Ended.TheVariants.{Over, BadPage}

@@ -11,7 +11,7 @@ use Rattle.image.specs.Image.{directory_of, page_count, heading_check, accepted}
 use Rattle.page.specs.Reading.{Leaving, good, bad, reading_of}
 use Rattle.page.specs.Laying.{PageLaid}
 use Rattle.layout.specs.Rows.{end_of}
-use Rattle.cells.specs.Cells.{Memory}
+use Rattle.cells.specs.declared.Memory.{Memory}
 use Rattle.reference.specs.declared.Query.{Query}
 use Rattle.reference.specs.declared.Reference.{Reference}
 use Rattle.reference.specs.declared.Reference.TheVariants.{NobodyWaits, Made}
