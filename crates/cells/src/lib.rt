@@ -53,6 +53,7 @@ fn lowered_cell(cell: u64, sum: u64, u: usize) -> u64
 }
 
 // The working memory: a cell for each station, a waiting key for each slot, and the queue of pages.
+#[derive(Drop)]
 pub struct Memory {
     pub cells: [u64; STATIONS],
     pub waiting: [u64; STATIONS],
@@ -70,6 +71,14 @@ impl Memory {
             waiting: [NOBODY; STATIONS],
             queue: [NOBODY; QUEUE],
         }
+    }
+
+    // The cells, of as many stations as a map can have.
+    pub fn cells(&self) -> &[u64]
+        ensures value { result.now ≡ self.now.cells }
+        ensures size { length result.now ≡ 2048 }
+    {
+        &self.cells
     }
 
     // A move leads from u to v, and by it v would cost `sum`: its cell becomes the lesser of itself and the cell of
