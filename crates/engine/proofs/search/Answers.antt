@@ -20,7 +20,7 @@ offer-requires c =
     rw c.directory_of.ensures.part at c.place.ensures.placed in
     let (from, (to, (cost, (room, placed_at)))) =
     begin_asks c.args.query c.args.image.now bytes c.requires.formed c.requires.source placed c.requires.cells in
-    record { from = from; to = to; cost = cost; room = room; placed = placed_at }
+    rw c.from-source.ensures (record { from = from; to = to; cost = cost; room = room; placed = placed_at })
 
 pub run-requires : goal.run-requires
 run-requires c =
@@ -29,5 +29,5 @@ run-requires c =
     rw c.directory_of.ensures.part at c.place.ensures.placed in
     record {
       begun = begun_image c.args.query c.args.image.now bytes c.requires.formed c.requires.source placed
-          c.requires.cells c.offer.ensures.relaxed c.requires.room;
+          c.requires.cells (rw c.from-source.ensures at c.offer.ensures.relaxed) c.requires.room;
     }
