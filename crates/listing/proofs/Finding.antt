@@ -1,13 +1,13 @@
 -- What is answered of an image: the refusal of the whole check; refusal 7, if the list is too short for the records
 -- that were kept; or their count.
-use Rattle.common.proofs.Ground.{◌≡◌, List, ℕ, ◌≤◌, ◌<◌, arith, length, lt-ltb, le-ltb}
+use Rattle.common.proofs.Ground.{◌≡◌, List, ℕ, ◌≤◌, ◌<◌, arith, length, take, lt-ltb, le-ltb}
 use Rattle.common.proofs.Cases.{never}
 use Rattle.image.specs.Bytes.{Bytes}
 use Rattle.image.specs.declared.Refusal.{Refusal}
 use Rattle.image.specs.declared.Place.TheVariants.{Nowhere}
 use Rattle.image.specs.Image.{accepted, refused, place_of}
 use Rattle.whole.specs.Check.{whole_check}
-use Rattle.move_record.specs.Kept.{kept_from}
+use Rattle.move_record.specs.declared.MoveRecord.{MoveRecord}
 use Rattle.roundtrip.specs.Records.{records_of, read_check}
 use Rattle.roundtrip.specs.Promises.{WritesBack}
 use Rattle.roundtrip.proofs.Back.{image_writes_back}
@@ -15,7 +15,7 @@ use Rattle.roundtrip.proofs.Few.{few_records_of}
 use Rattle.listing.specs.declared.ReadAnswer.TheVariants.{Listed, Refused}
 use Rattle.listing.specs.Found.{Found}
 
-module _ (image : List ℕ) (room : ℕ) (kept : List ℕ) where
+module _ (image : List ℕ) (room : ℕ) (kept : List MoveRecord) where
   -- the whole check refuses
   pub found_refused : (refusal : Refusal)
       → whole_check image ≡ refused refusal.number (place_of refusal.place)
@@ -47,7 +47,7 @@ module _ (image : List ℕ) (room : ℕ) (kept : List ℕ) where
       writes_back = writes_back;
     }
 
-    pub found-listed : (count : ℕ) → count ≡ length (records_of image) → kept_from kept count 0 ≡ records_of image
+    pub found-listed : (count : ℕ) → count ≡ length (records_of image) → take count kept ≡ records_of image
         → count ≤ room → Found image room (Listed count) kept
     unfolding read_check
     found-listed count counted records h = record {
