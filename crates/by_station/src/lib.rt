@@ -21,9 +21,9 @@ pub fn next_move(page: &[u8], at: usize) -> Option<(Move, usize)>
     ensures value { result ≡ next_move page.now at }
 {
     match command_at(page, at) {
-        Command::MoveTo(m) => Some((m, at + length_of(MOVE))),
-        Command::Limited(m) => Some((m, at + length_of(LIMITED))),
-        Command::Station(_) | Command::End | Command::Fault(_) => None,
+        Ok(Command::MoveTo(m)) => Some((m, at + length_of(MOVE))),
+        Ok(Command::Limited(m)) => Some((m, at + length_of(LIMITED))),
+        Ok(Command::Station(_) | Command::End) | Err(_) => None,
     }
 }
 
