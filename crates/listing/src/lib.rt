@@ -6,33 +6,16 @@ ghost use Rattle.std.specs.Prelude.{◌≡◌, [], ◌+◌, ◌≤◌, ◌<◌, 
 ghost use Rattle.image.specs.Image.{accepted, directory_of};
 ghost use Rattle.whole.specs.Check.{whole_check};
 ghost use Rattle.roundtrip.specs.Records.{records_at, records_of};
-ghost use Rattle.listing.specs.Found.{count_in, Found};
+ghost use Rattle.listing.specs.Found.{Found};
 ghost use Rattle.by_station.specs.Reached.{Reached};
 ghost use Rattle.listing.specs.Stations.{StationKept};
 
 use by_station::{next_move, record_for};
 use commands::{STATION, length_of};
-use image::{Checked, Place, Refusal, directory_of, page_of};
+use image::{Refusal, directory_of, page_of};
 use layout::places::PAGES;
 use move_record::{MoveRecord, RECORDS};
 use whole::check;
-
-// What the reader answers: how many records the image has; or that it is refused by the whole check, or by 7.
-#[derive(Clone, Copy)]
-pub enum ReadAnswer {
-    Listed(usize),
-    Refused(Refusal),
-}
-
-// How many records were listed: none at a refusal.
-pub fn count_in(answer: ReadAnswer) -> usize
-    ensures value { result ≡ count_in answer }
-{
-    match answer {
-        ReadAnswer::Listed(count) => count,
-        ReadAnswer::Refused(refusal) => 0,
-    }
-}
 
 // How far the records are kept: the offset behind the moves that were passed, and the number of records.
 #[derive(Clone, Copy)]
@@ -87,21 +70,19 @@ fn keep_stations(image: &[u8], kept: &mut [MoveRecord]) -> usize
     count
 }
 
-// Keeps the records of an image, if it is wholly good and the list that they are for has room for them.
-pub fn keep_records(image: &[u8], room: usize, kept: &mut [MoveRecord; RECORDS]) -> ReadAnswer
+// Keeps the records of an image, if it is wholly good and the list that they are for has room for them, and gives their
+// number. It is refused by the whole check, or by 7.
+pub fn keep_records(
+    image: &[u8],
+    room: usize,
+    kept: &mut [MoveRecord; RECORDS],
+) -> Result<usize, Refusal>
     ensures found { Found image.now room result kept.new }
 {
-    match check(image) {
-        Checked::Whole => {
-            let count = keep_stations(image, kept);
-            if room < count {
-                return ReadAnswer::Refused(Refusal {
-                    number: 7,
-                    place: Place::Nowhere,
-                });
-            }
-            ReadAnswer::Listed(count)
-        }
-        Checked::Refused(refusal) => ReadAnswer::Refused(refusal),
+    check(image)?;
+    let count = keep_stations(image, kept);
+    if room < count {
+        return Err(Refusal::TableTooShort);
     }
+    Ok(count)
 }
