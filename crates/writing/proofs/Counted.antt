@@ -1,9 +1,9 @@
 -- How many records are taken, and what is kept of them where all are: as many as come before the first fault of 19, and
 -- then the records themselves and the bytes that the moves of each station need. By induction over the records.
-use Rattle.common.proofs.Ground.{◌≡◌, refl, ap, sym, ◌∙◌, subst, Bool, true, false, ◌&&◌, dite, List, [], ◌∷◌, ℕ, zero}
-use Rattle.common.proofs.Ground.{suc, ◌+◌, ◌*◌, ◌/◌, ◌%◌, ◌≤◌, ◌<◌, min, arith, ℕ_discrete, length, get_or, take, drop}
+use Rattle.common.proofs.Ground.{◌≡◌, refl, ap, ◌∙◌, subst, Bool, true, false, ◌&&◌, dite, List, [], ◌∷◌, ℕ}
+use Rattle.common.proofs.Ground.{suc, ◌+◌, ◌/◌, ◌%◌, ◌≤◌, ◌<◌, min, arith, ℕ_discrete, length, get_or, take, drop}
 use Rattle.common.proofs.Ground.{drop-cons, eqb, eq-eqb, ne_eqb, get_or-replicate}
-use Rattle.std.specs.Prelude.{Option, Some, None}
+use Rattle.std.specs.Prelude.{Some}
 use Rattle.common.specs.Pick.{pick}
 use Rattle.commands.specs.Commands.{length_of}
 use Rattle.page.specs.Good.{spell_move, spell_moves}

@@ -145,12 +145,16 @@ below_more size m i r next below = by_latest m.latest next.above below
   where
     by_latest : (latest : Option MoveRecord) → above_latest latest r ≡ true → Below latest m.count
         → Below (Some r) (suc i)
-    by_latest None e b =
-        (omega (arith, next.from_below, next.stations), omega (arith, next.target_below, next.stations),
-        omega (arith, next.all_before))
-    by_latest (Some before) e b =
-        (omega (arith, next.from_below, next.stations), omega (arith, next.target_below, next.stations),
-        omega (arith, above_number before r b.1 e, b.2, next.all_before))
+    by_latest None e b = (
+      omega (arith, next.from_below, next.stations),
+      omega (arith, next.target_below, next.stations),
+      omega (arith, next.all_before),
+    )
+    by_latest (Some before) e b = (
+      omega (arith, next.from_below, next.stations),
+      omega (arith, next.target_below, next.stations),
+      omega (arith, above_number before r b.1 e, b.2, next.all_before),
+    )
 
 below_few : (latest : Option MoveRecord) (count : ℕ) → Below latest count → count < 4294967296
 below_few None count b = omega arith

@@ -5,7 +5,7 @@ use Rattle.roundtrip.specs.Written.{WriteOutcome, said, refused_record, refused_
 use Rattle.writing.specs.declared.WriteRefusal.{WriteRefusal}
 use Rattle.writing.specs.declared.WriteRefusal.TheVariants.{Shape, Record, Page}
 
-abbrev pub outcome_of_write : Result (Unit {0}) WriteRefusal → WriteOutcome
+abbrev pub outcome_of_write : Result Unit WriteRefusal → WriteOutcome
 outcome_of_write (Ok done) = said accepted
 outcome_of_write (Err (Shape refusal)) = said (refused (number_of refusal) (place_of refusal))
 outcome_of_write (Err (Record index)) = refused_record 19 index

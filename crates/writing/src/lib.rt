@@ -84,6 +84,6 @@ pub fn finish(
     if let Some(page) = first_full(&memory.bytes, directory, pages as usize) {
         return Err(WriteRefusal::Page(page as u8));
     }
-    write_image(&memory.records[..memory.count], size, pages, directory, image);
+    write_image(memory.taken(), size, pages, directory, image);
     Ok(())
 }

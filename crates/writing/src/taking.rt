@@ -1,6 +1,6 @@
 // One record taken into the writer's memory (specs/Taking.antt).
 
-ghost use Rattle.std.specs.Prelude.{◌≡◌, ◌≤◌, ◌<◌};
+ghost use Rattle.std.specs.Prelude.{◌≡◌, ◌≤◌, ◌<◌, take};
 ghost use Rattle.roundtrip.specs.Written.{is_move, is_above};
 ghost use Rattle.writing.specs.Taking.{empty, take_of, width_for, is_next, with_record};
 
@@ -84,9 +84,18 @@ impl Memory {
     pub fn take(&mut self, i: usize, size: u16, r: MoveRecord)
         requires room { i < 18446744073709551615 }
         ensures taken { self.new ≡ take_of size self.old i r }
+        ensures fits { (r.time < 65536) × (r.limit < 65536) }
     {
         if self.is_next(i, size, r) {
             self.keep(i, r);
         }
+    }
+
+    // The records that were taken, where a map can have so many.
+    pub fn taken(&self) -> &[MoveRecord]
+        requires few { self.now.count ≤ 12240 }
+        ensures taken { result.now ≡ take self.now.count self.now.records }
+    {
+        &self.records[..self.count]
     }
 }
