@@ -9,6 +9,7 @@
 
 ghost use Rattle.std.specs.Prelude.{◌<◌};
 
+use image::bytes::part_of;
 use image::{Place, Refusal};
 use std::{fmt, io};
 use streams::read_full;
@@ -21,6 +22,29 @@ pub const BYTES: usize = 70000;
 struct Map<'a> {
     image: &'a mut [u8],
     calls: u16,
+}
+
+// A part of a case's bytes, by its offset and its length.
+#[derive(Clone, Copy)]
+pub struct Part {
+    pub from: u32,
+    pub count: u32,
+}
+
+impl Part {
+    // The part that a call names at an offset, by two u32.
+    pub fn named(call: &[u8], at: u8) -> Part {
+        let at = usize::from(at);
+        Part {
+            from: u32::from_le_bytes(bytes_at(call, at)),
+            count: u32::from_le_bytes(bytes_at(call, at + 4)),
+        }
+    }
+
+    // It, as far as the bytes reach.
+    pub fn of(self, bytes: &[u8]) -> &[u8] {
+        part_of(bytes, self.from as usize, self.count as usize)
+    }
 }
 
 // A refusal as text: its number, and the place that it names.
@@ -62,6 +86,13 @@ pub fn read_array<R: Input, const N: usize>(rt: &R) -> [u8; N]
     bytes
 }
 
+// Sets a byte of an image, if it is there.
+pub fn put(image: &mut [u8], at: usize, value: u8) {
+    if let Some(byte) = image.get_mut(at) {
+        *byte = value;
+    }
+}
+
 // Reads so many changes and makes them.
 pub fn change_bytes<R: Input + Print>(rt: &R, image: &mut [u8], changes: u8) -> io::Result<()> {
     for _ in 0..changes {
@@ -69,9 +100,7 @@ pub fn change_bytes<R: Input + Print>(rt: &R, image: &mut [u8], changes: u8) -> 
         let at = u32::from_le_bytes(bytes_at(&change, 0));
         let value = change[4];
         println!(rt; "  byte {at} becomes {value}")?;
-        if let Some(byte) = image.get_mut(at as usize) {
-            *byte = value;
-        }
+        put(image, at as usize, value);
     }
     Ok(())
 }

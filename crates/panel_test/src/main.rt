@@ -11,16 +11,27 @@
 use cases_io::{BYTES, change_bytes, run_cases};
 use image::bytes::{byte_at, word_at};
 use std::io;
+use std::num::f64_to_bits_with_nan;
 use tables_io::{Runs, mixed};
 use yard::yard_panel;
 
-// The most stations of a call.
-const STATIONS: usize = 65535;
+// Room for the most stations of a call, and one more.
+const STATIONS: usize = 65536;
 
 // The digest with the bits of a float.
 fn with_float(digest: u64, float: f64) -> u64 {
-    let bits = float.to_bits();
-    mixed(mixed(digest, (bits >> 32) as u32), (bits & 0xffff_ffff) as u32)
+    let bits = f64_to_bits_with_nan(float);
+    mixed(
+        mixed(digest, (bits / 0x1_0000_0000) as u32),
+        (bits % 0x1_0000_0000) as u32,
+    )
+}
+
+// Asks for so many stations from the first one on.
+fn ask(image: &[u8], source: u16, strip: u16, first: u16, number: u16, floats: &mut [f64]) {
+    for (i, float) in (0..number).zip(floats.iter_mut()) {
+        *float = yard_panel(image, source, strip, first.wrapping_add(i));
+    }
 }
 
 // Asks for the stations of a call in turn and prints its line.
@@ -30,15 +41,13 @@ fn print_line<R: Print>(rt: &R, image: &[u8], call: &[u8]) -> io::Result<()> {
     let first = word_at(call, 4);
     let number = word_at(call, 6);
     let last = (u64::from(first) + u64::from(number)).wrapping_sub(1);
-    print!(rt; " from {source}, strip {strip}, stations {first} to {last}:")?;
     let mut floats = [0.0; STATIONS];
-    let floats = &mut floats[..usize::from(number)];
-    for (i, float) in (0..number).zip(floats.iter_mut()) {
-        *float = yard_panel(image, source, strip, first.wrapping_add(i));
-    }
+    ask(image, source, strip, first, number, &mut floats);
+    let floats = &floats[..usize::from(number)];
     let digest = floats
         .iter()
         .fold(0, |digest, float| with_float(digest, *float));
+    print!(rt; " from {source}, strip {strip}, stations {first} to {last}:")?;
     println!(rt; "{}, digest {digest}", Runs(floats))
 }
 
