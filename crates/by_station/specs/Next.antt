@@ -1,8 +1,6 @@
 -- A station's next move. For the code: nothing that is promised speaks of it.
 use Rattle.std.specs.Prelude.{List, ℕ, ◌+◌}
-use Rattle.commands.specs.declared.Command.{Command}
-use Rattle.commands.specs.declared.Command.TheVariants.{End, Station, MoveTo, Limited, Fault}
-use Rattle.commands.specs.Commands.{length_of, command_at}
+use Rattle.commands.specs.Commands.{Command, End, Station, MoveTo, Limited, Fault, length_of, command_at}
 use Rattle.by_station.specs.declared.NextMove.{NextMove}
 use Rattle.by_station.specs.declared.NextMove.TheVariants.{Found, Over}
 

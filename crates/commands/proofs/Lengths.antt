@@ -1,15 +1,13 @@
 -- Commands at an offset: their lengths, what stands there if one is read, and each command by its code.
 use Rattle.common.proofs.Ground.{◌≡◌, ◌≢◌, refl, subst, not, ◌&&◌, ◌⊎◌, inl, inr, List, ℕ, zero, suc, ◌+◌, ◌*◌, ◌≤◌, ◌<◌}
 use Rattle.common.proofs.Ground.{arith, length, get_or, lit≤, eqb, ltb, leb, ltb-false, eqb-true, eqb-false, lt-leb}
-use Rattle.common.proofs.Ground.{le-ltb, lt-ltb}
+use Rattle.common.proofs.Ground.{le-ltb, lt-ltb, le-leb}
 use Rattle.common.proofs.Cases.{by_pick}
 use lib.Dec.{T, leb→le}
 use lib.Ieee.Fits.{and_l, and_r}
 use Rattle.commands.specs.declared.Move.{Move}
-use Rattle.commands.specs.declared.Command.{Command}
-use Rattle.commands.specs.declared.Command.TheVariants.{End, Station, MoveTo, Limited, Fault}
 use Rattle.image.specs.Bytes.{word}
-use Rattle.commands.specs.Commands.{length_of, move_with, command_at}
+use Rattle.commands.specs.Commands.{Command, End, Station, MoveTo, Limited, Fault, length_of, move_with, command_at}
 
 -- C-13: "A known code c has length 1 + 2·c", as each of the four rows has it. The checker computes both sides, row by
 -- row.
@@ -113,6 +111,10 @@ module _ (page : List ℕ) (at : ℕ) where
         unlimited = λ e. absurd (omega arith);
         limit = λ e. refl;
       }))
+
+  pub command_past : length page ≤ at → command_at page at ≡ Fault 9
+  unfolding command_at
+  command_past h = simp (le-leb _ _ h)
 
   -- each command by its code, where it ends within the page and where it does not
   pub command_move : code ≡ 2 → at + length_of 2 ≤ length page

@@ -5,14 +5,13 @@ use Rattle.image.proofs.check_heading.Goals as goal
 
 pub returns-then-image-lt4 : goal.returns-then-image-lt4
 unfolding heading_check
-returns-then-image-lt4 c = record { outcome = search (tests, c.refuse.ensures.outcome) }
+returns-then-image-lt4 c = record { outcome = search tests }
 
 pub returns-then-outside : goal.returns-then-outside
 unfolding heading_check
 returns-then-outside c = record {
   outcome = search (
     tests,
-    c.refuse-then-outside.ensures.outcome,
     ← c.station_count-stations.ensures.value,
     ← c.outside.ensures.value,
     c.if-outside.true,
@@ -29,7 +28,6 @@ returns-then-outside-2 c =
     record {
       outcome = search (
         tests,
-        c.refuse-then-outside-2.ensures.outcome,
         stations,
         ← c.page_count-pages.ensures.value,
         ← c.outside-2.ensures.value,
@@ -47,7 +45,7 @@ returns-then-image-stations c =
     let pages : eqb P 0 || ltb 240 P ≡ false =
     rw (← c.page_count-pages.ensures.value) (sym c.outside-2.ensures.value ∙ c.if-outside-2.false) in
     let other : length c.args.image.now ≢ 4 + N + 256 * P = omega arith in
-    record { outcome = search (tests, c.refuse-then-image-stations.ensures.outcome, stations, pages) }
+    record { outcome = search (tests, stations, pages) }
 
 -- behind the first four, the station that the scan of the directory found decides
 pub returns-then-station-stations : goal.returns-then-station-stations
@@ -64,7 +62,6 @@ returns-then-station-stations c =
         tests,
         stations,
         pages,
-        c.refuse-then-station-stations.ensures.outcome,
         ← c.station_count-stations.ensures.value,
         ← c.page_count-pages.ensures.value,
         ← c.directory_of.ensures.part,

@@ -5,8 +5,7 @@ use Rattle.layout.specs.Places.{first_slot}
 use Rattle.layout.specs.Due.{OnPage}
 use Rattle.page.specs.Reading.{verdict_of}
 use Rattle.commands.specs.declared.Move.{Move}
-use Rattle.commands.specs.declared.Command.{Command}
-use Rattle.commands.specs.Commands.{length_of}
+use Rattle.commands.specs.Commands.{Command, command_of, command_in, length_of}
 use Rattle.rules.specs.Rules.{next_on, judged_at}
 use Rattle.page.proofs.Reading.Steps.{found_at, IsMove, unlimited, limited}
 use Rattle.page.proofs.Reading.Progress.{Progress, progress_start, move_fits, progress_move}
@@ -44,62 +43,62 @@ pub overflow_sub-after : goal.overflow_sub-after
 overflow_sub-after c =
     let l = c.loop-m.invariant.1 _ c.page.invariant in
     let found = judged_found l c.first_slot-past.ensures.value c.judged_at.ensures.value in
-    (move_fits l unlimited (found ∙ c.in-MoveTo.is)).begun
+    (move_fits l unlimited (found ∙ ap command_in c.in-Ok-MoveTo.is ∙ ap command_of c.in-Ok-MoveTo.field-0-is)).begun
 
 pub lay_move-k-requires : goal.lay_move-k-requires
 lay_move-k-requires c =
     let l = c.loop-m.invariant.1 _ c.page.invariant in
     let found = judged_found l c.first_slot-past.ensures.value c.judged_at.ensures.value in
-    let asks = lay_asks l unlimited (found ∙ c.in-MoveTo.is) in
+    let asks = lay_asks l unlimited (found ∙ ap command_in c.in-Ok-MoveTo.is ∙ ap command_of c.in-Ok-MoveTo.field-0-is) in
     record { station = asks.0; inside = asks.1; entry = asks.2 }
 
 pub overflow_add-at : goal.overflow_add-at
 overflow_add-at c =
     let l = c.loop-m.invariant.1 _ c.page.invariant in
     let found = judged_found l c.first_slot-past.ensures.value c.judged_at.ensures.value in
-    omega (arith, ends_by l unlimited (found ∙ c.in-MoveTo.is) c.length_of-at.ensures.value)
+    omega (arith, ends_by l unlimited (found ∙ ap command_in c.in-Ok-MoveTo.is ∙ ap command_of c.in-Ok-MoveTo.field-0-is) c.length_of-at.ensures.value)
 
-pub loop-m-smaller-in-MoveTo : goal.loop-m-smaller-in-MoveTo
-loop-m-smaller-in-MoveTo c =
+pub loop-m-smaller-in-Ok-MoveTo : goal.loop-m-smaller-in-Ok-MoveTo
+loop-m-smaller-in-Ok-MoveTo c =
     let l = c.loop-m.invariant.1 _ c.page.invariant in
     let found = judged_found l c.first_slot-past.ensures.value c.judged_at.ensures.value in
-    omega (arith, ends_by l unlimited (found ∙ c.in-MoveTo.is) c.length_of-at.ensures.value)
+    omega (arith, ends_by l unlimited (found ∙ ap command_in c.in-Ok-MoveTo.is ∙ ap command_of c.in-Ok-MoveTo.field-0-is) c.length_of-at.ensures.value)
 
-pub loop-m-preserved-in-MoveTo : goal.loop-m-preserved-in-MoveTo
-loop-m-preserved-in-MoveTo c = (
+pub loop-m-preserved-in-Ok-MoveTo : goal.loop-m-preserved-in-Ok-MoveTo
+loop-m-preserved-in-Ok-MoveTo c = (
   omega (arith, c.loop-m.invariant.0),
   λ before l₀.
       let l = c.loop-m.invariant.1 before l₀ in
       let found = judged_found l c.first_slot-past.ensures.value c.judged_at.ensures.value in
       let next = ap (λ n. c.loop-m.at + n) c.length_of-at.ensures.value in
-      progress_move l unlimited (found ∙ c.in-MoveTo.is) c.lay_move-k.ensures.laid next
+      progress_move l unlimited (found ∙ ap command_in c.in-Ok-MoveTo.is ∙ ap command_of c.in-Ok-MoveTo.field-0-is) c.lay_move-k.ensures.laid next
       c.least_behind-least.ensures.value c.lay_move-k.ensures.next,
 )
 
-pub overflow_sub-after-in-Limited : goal.overflow_sub-after-in-Limited
-overflow_sub-after-in-Limited c =
+pub overflow_sub-after-in-Ok-Limited : goal.overflow_sub-after-in-Ok-Limited
+overflow_sub-after-in-Ok-Limited c =
     let l = c.loop-m.invariant.1 _ c.page.invariant in
     let found = judged_found l c.first_slot-past.ensures.value c.judged_at.ensures.value in
-    (move_fits l limited (found ∙ c.in-Limited.is)).begun
+    (move_fits l limited (found ∙ ap command_in c.in-Ok-Limited.is ∙ ap command_of c.in-Ok-Limited.field-0-is)).begun
 
 pub lay_limited-k-requires : goal.lay_limited-k-requires
 lay_limited-k-requires c =
     let l = c.loop-m.invariant.1 _ c.page.invariant in
     let found = judged_found l c.first_slot-past.ensures.value c.judged_at.ensures.value in
-    let asks = lay_asks l limited (found ∙ c.in-Limited.is) in
+    let asks = lay_asks l limited (found ∙ ap command_in c.in-Ok-Limited.is ∙ ap command_of c.in-Ok-Limited.field-0-is) in
     record { station = asks.0; inside = asks.1; entry = asks.2 }
 
-pub overflow_add-at-in-Limited : goal.overflow_add-at-in-Limited
-overflow_add-at-in-Limited c =
+pub overflow_add-at-in-Ok-Limited : goal.overflow_add-at-in-Ok-Limited
+overflow_add-at-in-Ok-Limited c =
     let l = c.loop-m.invariant.1 _ c.page.invariant in
     let found = judged_found l c.first_slot-past.ensures.value c.judged_at.ensures.value in
-    omega (arith, ends_by l limited (found ∙ c.in-Limited.is) c.length_of-at-in-Limited.ensures.value)
+    omega (arith, ends_by l limited (found ∙ ap command_in c.in-Ok-Limited.is ∙ ap command_of c.in-Ok-Limited.field-0-is) c.length_of-at-in-Ok-Limited.ensures.value)
 
 pub loop-m-smaller : goal.loop-m-smaller
 loop-m-smaller c =
     let l = c.loop-m.invariant.1 _ c.page.invariant in
     let found = judged_found l c.first_slot-past.ensures.value c.judged_at.ensures.value in
-    omega (arith, ends_by l limited (found ∙ c.in-Limited.is) c.length_of-at-in-Limited.ensures.value)
+    omega (arith, ends_by l limited (found ∙ ap command_in c.in-Ok-Limited.is ∙ ap command_of c.in-Ok-Limited.field-0-is) c.length_of-at-in-Ok-Limited.ensures.value)
 
 pub loop-m-preserved : goal.loop-m-preserved
 loop-m-preserved c = (
@@ -107,23 +106,23 @@ loop-m-preserved c = (
   λ before l₀.
       let l = c.loop-m.invariant.1 before l₀ in
       let found = judged_found l c.first_slot-past.ensures.value c.judged_at.ensures.value in
-      let next = ap (λ n. c.loop-m.at + n) c.length_of-at-in-Limited.ensures.value in
-      progress_move l limited (found ∙ c.in-Limited.is) c.lay_limited-k.ensures.laid next
-      c.least_behind-least-in-Limited.ensures.value c.lay_limited-k.ensures.next,
+      let next = ap (λ n. c.loop-m.at + n) c.length_of-at-in-Ok-Limited.ensures.value in
+      progress_move l limited (found ∙ ap command_in c.in-Ok-Limited.is ∙ ap command_of c.in-Ok-Limited.field-0-is) c.lay_limited-k.ensures.laid next
+      c.least_behind-least-in-Ok-Limited.ensures.value c.lay_limited-k.ensures.next,
 )
 
-pub returns-in-End : goal.returns-in-End
-returns-in-End c =
+pub returns-in-Ok-End : goal.returns-in-Ok-End
+returns-in-Ok-End c =
     let l = c.loop-m.invariant.1 _ c.page.invariant in
     let found = judged_found l c.first_slot-past.ensures.value c.judged_at.ensures.value in
-    let e = found ∙ c.in-End.is in
+    let e = found ∙ ap command_in c.in-Ok-End.is ∙ ap command_of c.in-Ok-End.field-0-is in
     record { verdict = decided l e; laid = end_laid l e; others = l.others }
 
 pub begin_row-requires : goal.begin_row-requires
 begin_row-requires c =
     let l = c.loop-m.invariant.1 _ c.page.invariant in
     let found = judged_found l c.first_slot-past.ensures.value c.judged_at.ensures.value in
-    let here = station_fits l (found ∙ c.in-Station.is) in
+    let here = station_fits l (found ∙ ap command_in c.in-Ok-Station.is ∙ ap command_of c.in-Ok-Station.field-0-is) in
     record {
       station = omega (arith, here.small, l.enough.room);
       entry = omega (arith, here.room, l.enough.room);
@@ -139,7 +138,7 @@ pub overflow_add-after : goal.overflow_add-after
 overflow_add-after c =
     let l = c.loop-m.invariant.1 _ c.page.invariant in
     let found = judged_found l c.first_slot-past.ensures.value c.judged_at.ensures.value in
-    omega (arith, (station_fits l (found ∙ c.in-Station.is)).small)
+    omega (arith, (station_fits l (found ∙ ap command_in c.in-Ok-Station.is ∙ ap command_of c.in-Ok-Station.field-0-is)).small)
 
 pub overflow_add-at-in-page : goal.overflow_add-at-in-page
 overflow_add-at-in-page c =
@@ -148,7 +147,7 @@ overflow_add-at-in-page c =
     omega (
       arith,
       c.length_of-at-in-page.ensures.value,
-      (station_fits l (found ∙ c.in-Station.is)).ends,
+      (station_fits l (found ∙ ap command_in c.in-Ok-Station.is ∙ ap command_of c.in-Ok-Station.field-0-is)).ends,
       l.enough.short,
     )
 
@@ -159,7 +158,7 @@ page-smaller c =
     omega (
       arith,
       c.length_of-at-in-page.ensures.value,
-      (station_fits l (found ∙ c.in-Station.is)).ends,
+      (station_fits l (found ∙ ap command_in c.in-Ok-Station.is ∙ ap command_of c.in-Ok-Station.field-0-is)).ends,
       c.loop-m.invariant.0,
     )
 
@@ -167,14 +166,14 @@ pub page-preserved : goal.page-preserved
 page-preserved c =
     let l = c.loop-m.invariant.1 _ c.page.invariant in
     let found = judged_found l c.first_slot-past.ensures.value c.judged_at.ensures.value in
-    progress_station l (found ∙ c.in-Station.is) c.begin_row.ensures.begun
+    progress_station l (found ∙ ap command_in c.in-Ok-Station.is ∙ ap command_of c.in-Ok-Station.field-0-is) c.begin_row.ensures.begun
     (ap (λ n. c.loop-m.at + n) c.length_of-at-in-page.ensures.value)
 
 pub returns : goal.returns
 returns c =
     let l = c.loop-m.invariant.1 _ c.page.invariant in
     let found = judged_found l c.first_slot-past.ensures.value c.judged_at.ensures.value in
-    let bad = decided l (found ∙ c.in-Fault.is) in
+    let bad = decided l (found ∙ ap command_in c.in-Err.is) in
     record {
       verdict = bad;
       laid = λ moves stations e. never (let z = bad ∙ ap verdict_of e in cc);
