@@ -10,7 +10,7 @@
 ghost use Rattle.std.specs.Prelude.{◌<◌};
 
 use image::bytes::part_of;
-use image::{Place, Refusal};
+use image::{BadPage, Refusal};
 use std::{fmt, io};
 use streams::read_full;
 
@@ -53,12 +53,13 @@ pub struct Told(pub Refusal);
 
 impl fmt::Display for Told {
     fn fmt<W: fmt::Write>(&self, f: &mut fmt::Formatter<W>) -> fmt::Result {
-        let number = self.0.number;
-        write!(f, "refused {number}")?;
-        match self.0.place {
-            Place::Nowhere => Ok(()),
-            Place::AtStation(station) => write!(f, ", station {station}"),
-            Place::OnPage { page, offset } => write!(f, ", page {page}, offset {offset}"),
+        write!(f, "refused {}", self.0.number())?;
+        match self.0 {
+            Refusal::Directory { station } => write!(f, ", station {station}"),
+            Refusal::BadPage(BadPage { page, offset, .. }) => {
+                write!(f, ", page {page}, offset {offset}")
+            }
+            _ => Ok(()),
         }
     }
 }
