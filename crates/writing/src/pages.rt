@@ -13,6 +13,7 @@ const PAGE: usize = 256;
 const END_BYTES: usize = 1;
 
 // To the sum of each page what its stations need is added.
+#[tactic(auto, using(crate::proofs::Sums::sums_turn, crate::proofs::Sums::sums_end))]
 fn add_stations(bytes: &[u16; STATIONS], directory: &[u8], sums: &mut [usize; PAGES])
     requires stations { length directory.now ≤ 2048 }
     ensures summed { sums.new ≡ sums_from bytes.now 0 directory.now sums.old }
