@@ -1,31 +1,21 @@
 // The text of the naming call's answer: `first less`, `second less` or `equal`, or which image is refused, with the
 // refusal's number and the place that it names.
 
-use cases_io::{STDOUT_FILENO, print_refusal};
-use image::Refusal;
+use cases_io::Told;
 use order::{Comparison, OrderAnswer};
+use std::fmt;
 
-fn print_words(words: &[u8]) {
-    io::write_all(STDOUT_FILENO, words);
-}
+#[derive(Clone, Copy)]
+pub struct Answered(pub OrderAnswer);
 
-fn print_comparison(comparison: Comparison) {
-    match comparison {
-        Comparison::FirstLess => print_words(b"first less"),
-        Comparison::Equal => print_words(b"equal"),
-        Comparison::SecondLess => print_words(b"second less"),
-    }
-}
-
-fn print_refused(which: &[u8], refusal: Refusal) {
-    print_words(which);
-    print_refusal(refusal);
-}
-
-pub fn print_answer(answer: OrderAnswer) {
-    match answer {
-        OrderAnswer::Ordered(comparison) => print_comparison(comparison),
-        OrderAnswer::FirstRefused(refusal) => print_refused(b"first ", refusal),
-        OrderAnswer::SecondRefused(refusal) => print_refused(b"second ", refusal),
+impl fmt::Display for Answered {
+    fn fmt<W: fmt::Write>(&self, f: &mut fmt::Formatter<W>) -> fmt::Result {
+        match self.0 {
+            OrderAnswer::Ordered(Comparison::FirstLess) => write!(f, "first less"),
+            OrderAnswer::Ordered(Comparison::Equal) => write!(f, "equal"),
+            OrderAnswer::Ordered(Comparison::SecondLess) => write!(f, "second less"),
+            OrderAnswer::FirstRefused(refusal) => write!(f, "first {}", Told(refusal)),
+            OrderAnswer::SecondRefused(refusal) => write!(f, "second {}", Told(refusal)),
+        }
     }
 }
