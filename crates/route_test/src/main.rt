@@ -4,7 +4,7 @@
 // tests/make_route_cases.py writes the cases and, by rules of its own, the text that this program must print.
 #![tactic(auto)]
 
-use route::RouteAnswer;
+use route::RouteRefusal;
 
 // The numbers of standard input and standard output.
 const STDIN_FILENO: i32 = 0;
@@ -49,13 +49,13 @@ fn print_number(before: &[u8], number: u64) {
     io::print_decimal(STDOUT_FILENO, number);
 }
 
-fn print_answer(answer: RouteAnswer) {
+fn print_answer(answer: Result<Option<usize>, RouteRefusal>) {
     match answer {
-        RouteAnswer::Found(count) => print_number(b"found ", count as u64),
-        RouteAnswer::NoRoute => {
+        Ok(Some(count)) => print_number(b"found ", count as u64),
+        Ok(None) => {
             io::write_all(STDOUT_FILENO, b"no route");
         }
-        RouteAnswer::Refused(number) => print_number(b"refused ", number as u64),
+        Err(refusal) => print_number(b"refused ", refusal.number() as u64),
     }
 }
 

@@ -1,5 +1,9 @@
-use Rattle.route.proofs.Counting.{count_end, count_source, count_lost, count_onward}
+use Rattle.route.proofs.Counting.{count-start, count_end, count_source, count_lost, count_onward}
+use Rattle.common.proofs.Ground.{arith}
 use Rattle.route.proofs.count_stations.Goals as goal
+
+pub loop-passed-init : goal.loop-passed-init
+loop-passed-init c = count-start _ _
 
 pub returns-then-before : goal.returns-then-before
 returns-then-before c = record {
@@ -19,6 +23,12 @@ loop-passed-preserved c =
     c.predecessor_at-before.ensures.value c.if-before.false c.if-preds-before.false
 
 pub returns : goal.returns
-returns c = record {
-  count = count_end _ _ _ _ 0 c.loop-passed.invariant c.loop-passed-test.false;
+returns c = record { count = count_end _ _ _ _ 0 c.loop-passed.invariant c.loop-passed-test.false }
+
+pub returns-else-preds-before : goal.returns-else-preds-before
+returns-else-preds-before c = record {
+  count = count_end _ _ _ _ 0
+      (count_onward _ _ _ _ _ c.loop-passed.invariant c.loop-passed-test.true
+      c.predecessor_at-before.ensures.value c.if-before.false c.if-preds-before.false)
+      (omega arith);
 }
