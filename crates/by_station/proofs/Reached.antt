@@ -18,24 +18,27 @@ use Rattle.page.proofs.Good.Promise.{promise}
 use Rattle.page.proofs.Good.Spelling.{read_end, read_station, read_move, behind_move_lem}
 use Rattle.whole.proofs.Accepted.{GoodPage}
 use Rattle.roundtrip.specs.Records.{content_in}
-use Rattle.by_station.specs.declared.NextMove.TheVariants.{Found, Over}
+use Rattle.std.specs.Prelude.{Some, None}
+use Rattle.std.proofs.lemmas.Option.{some_pair_parts}
 use Rattle.by_station.specs.Next.{move_in, next_move}
 use Rattle.by_station.specs.Reached.{Reached}
 
 -- A command that is a move is the next one.
-next-is : {m : Move} {code : ℕ} {x : Command} (at : ℕ) → IsMove m code x → move_in at x ≡ Found m (at + length_of code)
+next-is : {m : Move} {code : ℕ} {x : Command} (at : ℕ) → IsMove m code x → move_in at x ≡ Some (m, at + length_of code)
 next-is at unlimited = refl
 next-is at limited = refl
 
 -- What stands behind a move is further on, and within the page.
-pub found_behind : (page : List ℕ) (at : ℕ) {m : Move} {behind : ℕ} → next_move page at ≡ Found m behind
+pub found_behind : (page : List ℕ) (at : ℕ) {m : Move} {behind : ℕ} → next_move page at ≡ Some (m, behind)
     → (at < behind) × (behind ≤ length page)
 found_behind page at {m} {behind} e = by_command (command_at page at) (stands page at refl) e
   where
-    by_command : (x : Command) → Stands page at x → move_in at x ≡ Found m behind
+    by_command : (x : Command) → Stands page at x → move_in at x ≡ Some (m, behind)
         → (at < behind) × (behind ≤ length page)
-    by_command (MoveTo n) s q = let there : at + length_of 2 ≡ behind = cc in (omega arith, omega (arith, s.ends))
-    by_command (Limited n) s q = let there : at + length_of 3 ≡ behind = cc in (omega arith, omega (arith, s.ends))
+    by_command (MoveTo n) s q =
+        let there : at + length_of 2 ≡ behind = (some_pair_parts _ _ _ _ q).1 in (omega arith, omega (arith, s.ends))
+    by_command (Limited n) s q =
+        let there : at + length_of 3 ≡ behind = (some_pair_parts _ _ _ _ q).1 in (omega arith, omega (arith, s.ends))
     by_command (Station v) s q = never (cc)
     by_command End s q = never (cc)
     by_command (Fault number) s q = never (cc)
@@ -122,18 +125,18 @@ module _ (image : List ℕ) (p : ℕ) where
     reached-inside [] r = left_inside r.left r.zeros r.spells
     reached-inside (m ∷ rest) r = omega (arith, length-drop at page, ap length r.spells)
 
-    none_stands : (left : List Leaving) (zeros : ℕ) → drop at page ≡ spelled left zeros → next_move page at ≡ Over
+    none_stands : (left : List Leaving) (zeros : ℕ) → drop at page ≡ spelled left zeros → next_move page at ≡ None
     unfolding spell_stations
     none_stands [] zeros e = ap (move_in at) (read_end page at _ e)
     none_stands (x ∷ xs) zeros e = ap (move_in at) (read_station page at x.station _ e)
 
     -- Behind the last move no move stands, and before it the first that is left.
-    pub next_over : {after : ℕ} → Reached image p after at [] → next_move page at ≡ Over
+    pub next_over : {after : ℕ} → Reached image p after at [] → next_move page at ≡ None
     unfolding spell_moves
     next_over r = none_stands r.left r.zeros r.spells
 
     pub next-first : {after : ℕ} {m : Move} {rest : List Move} → Reached image p after at (m ∷ rest)
-        → next_move page at ≡ Found m (at + length_of (code_of m))
+        → next_move page at ≡ Some (m, at + length_of (code_of m))
     unfolding spell_moves
     next-first {m = m} r =
         let (x, reads, stands) = read_move page at m _ r.spells in
@@ -141,14 +144,12 @@ module _ (image : List ℕ) (p : ℕ) where
 
     -- A move stands there: it is the first that is left, and behind it the others are.
     pub reached-move : {after behind : ℕ} {m : Move} (moves : List Move) → Reached image p after at moves
-        → next_move page at ≡ Found m behind
+        → next_move page at ≡ Some (m, behind)
         → (rest : List Move) × (moves ≡ m ∷ rest) × Reached image p after behind rest
     unfolding spell_moves
     reached-move [] r e = never (let none = next_over r in cc)
     reached-move {after} {behind} {m} (n ∷ rest) r e =
-        let stands = next-first r in
-        let same : n ≡ m = cc in
-        let there : at + length_of (code_of n) ≡ behind = cc in
+        let (same, there) = some_pair_parts _ _ _ _ (sym (next-first r) ∙ e) in
         let width = length_of (code_of n) in
         let left = sym (drop-drop width at page) ∙ ap (drop width) r.spells ∙ behind_move_lem n _ in (
           rest,
@@ -163,7 +164,7 @@ module _ (image : List ℕ) (p : ℕ) where
         )
 
     -- No move stands there: none is left.
-    pub reached_over : {after : ℕ} (moves : List Move) → Reached image p after at moves → next_move page at ≡ Over
+    pub reached_over : {after : ℕ} (moves : List Move) → Reached image p after at moves → next_move page at ≡ None
         → moves ≡ []
     reached_over [] r e = refl
     reached_over (m ∷ rest) r e = never (let stands = next-first r in cc)

@@ -15,7 +15,7 @@ use Rattle.whole.specs.Check.{whole_check}
 use Rattle.whole.proofs.Accepted.{wholly}
 use Rattle.move_record.specs.declared.MoveRecord.{MoveRecord}
 use Rattle.roundtrip.specs.Records.{content_in, record_for, records_at, records_from, records_of}
-use Rattle.by_station.specs.declared.NextMove.TheVariants.{Found, Over}
+use Rattle.std.specs.Prelude.{Some, None}
 use Rattle.by_station.specs.Next.{next_move}
 use Rattle.by_station.specs.Reached.{Reached}
 use Rattle.by_station.specs.Standing.{Entered, page_at, records_behind, Standing}
@@ -135,7 +135,7 @@ module _ (image : List ℕ) (whole : whole_check image ≡ accepted) where
           }))
 
       -- A move is found: it is the first record that is left.
-      pub standing_move : {m : Move} {behind : ℕ} → next_move (page_bytes image page) at ≡ Found m behind
+      pub standing_move : {m : Move} {behind : ℕ} → next_move (page_bytes image page) at ≡ Some (m, behind)
           → (rest : List MoveRecord) × (left ≡ record_for u m ∷ rest) × Standing image u (set offsets page behind) rest
       standing_move {m} {behind} found =
           let (moves, next, reached) = reached-move image page at stands.moves (stands.own more) found in (
@@ -145,7 +145,7 @@ module _ (image : List ℕ) (whole : whole_check image ≡ accepted) where
           )
 
       -- The station has no more moves.
-      pub standing_next : next_move (page_bytes image page) at ≡ Over
+      pub standing_next : next_move (page_bytes image page) at ≡ None
           → Standing image (u + 1) (set offsets page (at + length_of 1)) left
       standing_next over =
           let last = reached_over image page at stands.moves (stands.own more) over in

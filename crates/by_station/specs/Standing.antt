@@ -1,13 +1,11 @@
 -- Where a walk of an image's records stands: at a station, and on each page at an offset. For the code: nothing that is
 -- promised speaks of it.
-use Rattle.std.specs.Prelude.{◌≡◌, ◌≢◌, List, [], ◌∷◌, ◌++◌, map, ℕ, ◌+◌, ◌-◌, ◌≤◌, ◌<◌, length, get_or}
+use Rattle.std.specs.Prelude.{◌≡◌, ◌≢◌, List, [], ◌∷◌, ◌++◌, map, ℕ, ◌+◌, ◌-◌, ◌≤◌, ◌<◌, length, get_or, Option, Some, None}
 use Rattle.image.specs.Image.{station_count, page_count, directory_of}
 use Rattle.commands.specs.declared.Move.{Move}
 use Rattle.commands.specs.Commands.{length_of}
 use Rattle.move_record.specs.declared.MoveRecord.{MoveRecord}
 use Rattle.roundtrip.specs.Records.{record_for, records_from}
-use Rattle.by_station.specs.declared.NextRecord.{NextRecord}
-use Rattle.by_station.specs.declared.NextRecord.TheVariants.{Found, Over}
 use Rattle.by_station.specs.Reached.{Reached}
 
 -- Page p is read up to its next station, of those from u on, and past that station's own command.
@@ -35,7 +33,7 @@ pub record Standing (image : List ℕ) (u : ℕ) (offsets : List ℕ) (left : Li
   pub records : left ≡ map (record_for u) moves ++ records_behind image u
 
 -- The first of the records that were left is found, and the others are left behind it; or none was left.
-abbrev pub Stepped : List ℕ → List MoveRecord → NextRecord → List ℕ → Type 0
-Stepped image left (Found r) offsets =
+abbrev pub Stepped : List ℕ → List MoveRecord → Option MoveRecord → List ℕ → Type 0
+Stepped image left (Some r) offsets =
     (rest : List MoveRecord) × (left ≡ r ∷ rest) × Standing image r.from offsets rest
-Stepped image left Over offsets = left ≡ []
+Stepped image left None offsets = left ≡ []

@@ -18,23 +18,15 @@ use move_record::MoveRecord;
 // How many pages a directory can name, whose entries are bytes.
 pub const PAGES: usize = 256;
 
-// A station's next move, with the offset behind it; or that the station has no more.
-#[derive(Clone, Copy)]
-pub enum NextMove {
-    Found(Move, usize),
-    Over,
-}
-
-// What stands at an offset of a page: a move of the station before it, or a command that is none.
-pub fn next_move(page: &[u8], at: usize) -> NextMove
+// The move that stands at an offset of a page, of the station before it, with the offset behind it; none where another
+// command stands there.
+pub fn next_move(page: &[u8], at: usize) -> Option<(Move, usize)>
     ensures value { result ≡ next_move page.now at }
 {
     match command_at(page, at) {
-        Command::MoveTo(m) => NextMove::Found(m, at + length_of(MOVE)),
-        Command::Limited(m) => NextMove::Found(m, at + length_of(LIMITED)),
-        Command::Station(v) => NextMove::Over,
-        Command::End => NextMove::Over,
-        Command::Fault(number) => NextMove::Over,
+        Command::MoveTo(m) => Some((m, at + length_of(MOVE))),
+        Command::Limited(m) => Some((m, at + length_of(LIMITED))),
+        Command::Station(_) | Command::End | Command::Fault(_) => None,
     }
 }
 
@@ -50,16 +42,9 @@ pub fn record_for(u: u16, m: Move) -> MoveRecord
     }
 }
 
-// The next record of an image, or that there are no more.
-#[derive(Clone, Copy)]
-pub enum NextRecord {
-    Found(MoveRecord),
-    Over,
-}
-
-// The next record of a wholly good image, from the station on at which a walk of it stands. For each page the offset
-// behind its latest move is known or, where its next station has not been come to, behind that station.
-pub fn next_record(image: &[u8], from: usize, offsets: &mut [usize]) -> NextRecord
+// The next record of a wholly good image, from the station on at which a walk of it stands, if there are more. For each
+// page the offset behind its latest move is known or, where its next station has not been come to, behind that station.
+pub fn next_record(image: &[u8], from: usize, offsets: &mut [usize]) -> Option<MoveRecord>
     requires whole { whole_check image.now ≡ accepted }
     requires standing { (left : List MoveRecord) × Standing image.now from offsets.old left }
     ensures next { (left : List MoveRecord)
@@ -67,18 +52,16 @@ pub fn next_record(image: &[u8], from: usize, offsets: &mut [usize]) -> NextReco
         → Stepped image.now left result offsets.new }
 {
     let directory = directory_of(image);
-    let mut u = from;
-    while u < directory.len() {
+    for u in from..directory.len() {
         let p = directory[u];
         let at = offsets[p as usize];
         match next_move(page_of(image, p), at) {
-            NextMove::Found(m, behind) => {
+            Some((m, behind)) => {
                 offsets[p as usize] = behind;
-                return NextRecord::Found(record_for(u as u16, m));
+                return Some(record_for(u as u16, m));
             }
-            NextMove::Over => offsets[p as usize] = at + length_of(STATION),
+            None => offsets[p as usize] = at + length_of(STATION),
         }
-        u += 1;
     }
-    NextRecord::Over
+    None
 }

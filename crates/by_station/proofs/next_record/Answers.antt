@@ -16,8 +16,8 @@ overflow_cast-u c =
     ) in
     omega (arith, due, (well-formed _ c.requires.whole).stations_most)
 
-pub returns-in-Found : goal.returns-in-Found
-returns-in-Found c =
+pub returns-in-Some : goal.returns-in-Some
+returns-in-Some c =
     let due : c.loop-u.u < station_count (c.args.image.now) = omega (
       arith,
       c.loop-u-test.true,
@@ -31,7 +31,7 @@ returns-in-Found c =
       next = λ left stands.
           rw (c.record_for.ensures.value, page_is)
           (standing_move _ c.requires.whole _ _ _ (c.loop-u.invariant left stands) (due)
-          (found ∙ c.in-Found.is));
+          (found ∙ c.in-Some.is));
     }
 
 pub overflow_add-offsets : goal.overflow_add-offsets
@@ -62,7 +62,7 @@ loop-u-preserved c =
     λ left stands.
     rw (c.length_of.ensures.value, page_is)
     (standing_next _ c.requires.whole _ _ _ (c.loop-u.invariant left stands) (due)
-    (found ∙ c.in-Over.is))
+    (found ∙ c.in-None.is))
 
 pub returns : goal.returns
 returns c = record {

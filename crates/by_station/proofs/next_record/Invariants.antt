@@ -1,6 +1,6 @@
 -- The loop's invariant: whatever was left where the call began is left where the walk stands now
 -- (proofs/Standing.antt).
-use Rattle.common.proofs.Ground.{List, ◌-◌, length}
+use Rattle.common.proofs.Ground.{List}
 use Rattle.move_record.specs.declared.MoveRecord.{MoveRecord}
 use Rattle.by_station.specs.Standing.{Standing}
 use Rattle.by_station.proofs.next_record.Given as goal
@@ -9,6 +9,3 @@ abbrev pub invariant-loop-u : goal.invariant-loop-u
 invariant-loop-u l =
     (left : List MoveRecord) → Standing l.image l.from l.initial.offsets left
     → Standing l.image l.u l.offsets left
-
-abbrev pub decreases-loop-u : goal.decreases-loop-u
-decreases-loop-u l = length l.directory - l.u

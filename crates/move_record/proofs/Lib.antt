@@ -1,3 +1,0 @@
--- Laws that the crates above cite: records kept as plain numbers.
-
-pub mod Keeping
