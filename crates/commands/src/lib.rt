@@ -9,7 +9,7 @@ ghost use Rattle.commands.specs.Commands.{length_of, move_with, command_at};
 use image::bytes::word_within;
 
 // A move of a page: command `02` or `03`. The limit is the longest strip that it takes, in decimetres; 0 is no limit.
-#[derive(Clone, Copy)]
+#[derive(Clone, Copy, Debug, PartialEq, Eq)]
 pub struct Move {
     pub target: u16,
     pub time: u16,

@@ -3,17 +3,18 @@
 
 use cases_io::{STDOUT_FILENO, print_refusal};
 use image::Refusal;
-use order::{Comparison, OrderAnswer};
+use order::OrderRefusal;
+use std::cmp::Ordering;
 
 fn print_words(words: &[u8]) {
     io::write_all(STDOUT_FILENO, words);
 }
 
-fn print_comparison(comparison: Comparison) {
-    match comparison {
-        Comparison::FirstLess => print_words(b"first less"),
-        Comparison::Equal => print_words(b"equal"),
-        Comparison::SecondLess => print_words(b"second less"),
+fn print_order(order: Ordering) {
+    match order {
+        Ordering::Less => print_words(b"first less"),
+        Ordering::Equal => print_words(b"equal"),
+        Ordering::Greater => print_words(b"second less"),
     }
 }
 
@@ -22,10 +23,10 @@ fn print_refused(which: &[u8], refusal: Refusal) {
     print_refusal(refusal);
 }
 
-pub fn print_answer(answer: OrderAnswer) {
+pub fn print_answer(answer: Result<Ordering, OrderRefusal>) {
     match answer {
-        OrderAnswer::Ordered(comparison) => print_comparison(comparison),
-        OrderAnswer::FirstRefused(refusal) => print_refused(b"first ", refusal),
-        OrderAnswer::SecondRefused(refusal) => print_refused(b"second ", refusal),
+        Ok(order) => print_order(order),
+        Err(OrderRefusal::First(refusal)) => print_refused(b"first ", refusal),
+        Err(OrderRefusal::Second(refusal)) => print_refused(b"second ", refusal),
     }
 }
