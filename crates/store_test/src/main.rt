@@ -14,7 +14,7 @@ use cases_io::{
     Map, STDIN_FILENO, STDOUT_FILENO, after_call, change_bytes, long_at, print_number, read_map,
 };
 use image::bytes::part_of;
-use store::{ReplayAnswer, replay};
+use store::{ReplayRefusal, replay};
 
 // The most bytes of a case: those of a full table, of 57,600 entries, and of lists of 79,600 entries together.
 const BYTES: usize = 310000;
@@ -59,10 +59,10 @@ fn print_call(call: &[u8]) {
     print_number(b", D ", long_at(call, 32) as u64);
 }
 
-fn print_answer(answer: ReplayAnswer) {
+fn print_answer(answer: Result<usize, ReplayRefusal>) {
     match answer {
-        ReplayAnswer::Reads(count) => print_number(b": reads ", count as u64),
-        ReplayAnswer::Refused(number) => print_number(b": refused ", number as u64),
+        Ok(count) => print_number(b": reads ", count as u64),
+        Err(refusal) => print_number(b": refused ", refusal.number() as u64),
     }
     io::write_all(STDOUT_FILENO, b"\n");
 }
