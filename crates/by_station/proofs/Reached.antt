@@ -4,9 +4,7 @@ use Rattle.common.proofs.Ground.{◌≡◌, ◌≢◌, refl, ap, sym, ◌∙◌,
 use Rattle.common.proofs.Ground.{arith, length, get_or, drop, length-drop, drop-drop, drop-cons, add-one, eq-eqb, ne_eqb}
 use Rattle.common.proofs.Cases.{never}
 use Rattle.commands.specs.declared.Move.{Move}
-use Rattle.commands.specs.declared.Command.{Command}
-use Rattle.commands.specs.declared.Command.TheVariants.{End, Station, MoveTo, Limited, Fault}
-use Rattle.commands.specs.Commands.{length_of, command_at}
+use Rattle.commands.specs.Commands.{Command, End, Station, MoveTo, Limited, Fault, length_of, command_at}
 use Rattle.commands.proofs.Lengths.{Stands, stands}
 use Rattle.image.specs.Bytes.{Bytes}
 use Rattle.image.specs.Image.{directory_of, page_bytes}

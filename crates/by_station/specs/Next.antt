@@ -1,9 +1,7 @@
 -- A station's next move. For the code: nothing that is promised speaks of it.
 use Rattle.std.specs.Prelude.{List, ℕ, ◌+◌, Option, Some, None}
 use Rattle.commands.specs.declared.Move.{Move}
-use Rattle.commands.specs.declared.Command.{Command}
-use Rattle.commands.specs.declared.Command.TheVariants.{End, Station, MoveTo, Limited, Fault}
-use Rattle.commands.specs.Commands.{length_of, command_at}
+use Rattle.commands.specs.Commands.{Command, End, Station, MoveTo, Limited, Fault, length_of, command_at}
 
 -- The move that a command at an offset is, with the offset behind it.
 abbrev pub move_in : ℕ → Command → Option (Move × ℕ)

@@ -1,15 +1,13 @@
 -- Commands at an offset: their lengths, what stands there if one is read, and each command by its code.
 use Rattle.common.proofs.Ground.{◌≡◌, ◌≢◌, refl, subst, not, ◌&&◌, ◌⊎◌, inl, inr, List, ℕ, zero, suc, ◌+◌, ◌*◌, ◌≤◌, ◌<◌}
 use Rattle.common.proofs.Ground.{arith, length, get_or, lit≤, eqb, ltb, leb, ltb-false, eqb-true, eqb-false, lt-leb}
-use Rattle.common.proofs.Ground.{le-ltb, lt-ltb}
+use Rattle.common.proofs.Ground.{le-ltb}
 use Rattle.common.proofs.Cases.{by_pick}
 use lib.Dec.{T, leb→le}
 use lib.Ieee.Fits.{and_l, and_r}
 use Rattle.commands.specs.declared.Move.{Move}
-use Rattle.commands.specs.declared.Command.{Command}
-use Rattle.commands.specs.declared.Command.TheVariants.{End, Station, MoveTo, Limited, Fault}
 use Rattle.image.specs.Bytes.{word}
-use Rattle.commands.specs.Commands.{length_of, move_with, command_at}
+use Rattle.commands.specs.Commands.{Command, End, Station, MoveTo, Limited, Fault, length_of, move_with, command_at}
 
 -- C-13: "A known code c has length 1 + 2·c", as each of the four rows has it. The checker computes both sides, row by
 -- row.
@@ -114,7 +112,7 @@ module _ (page : List ℕ) (at : ℕ) where
         limit = λ e. refl;
       }))
 
-  -- each command by its code, where it ends within the page and where it does not
+  -- each command by its code, where it ends within the page
   pub command_move : code ≡ 2 → at + length_of 2 ≤ length page
       → command_at page at ≡ MoveTo (move_with page at 0)
   unfolding command_at
@@ -132,12 +130,3 @@ module _ (page : List ℕ) (at : ℕ) where
   pub command_end : code ≡ 0 → at + length_of 0 ≤ length page → command_at page at ≡ End
   unfolding command_at
   command_end e l = let h : at < length page = omega arith in simp (lt-leb _ _ h, e, le-ltb _ _ l)
-
-  pub command_cut : (n : ℕ) → n < 4 → at < length page → code ≡ n → length page < at + length_of n
-      → command_at page at ≡ Fault 9
-  unfolding command_at
-  command_cut n k h e l = let known : n ≤ 3 = omega arith in simp (lt-leb _ _ h, e, le-ltb _ _ known, lt-ltb _ _ l)
-
-  pub command_unknown : at < length page → 3 < code → command_at page at ≡ Fault 8
-  unfolding command_at
-  command_unknown h l = simp (lt-leb _ _ h, lt-ltb _ _ l)

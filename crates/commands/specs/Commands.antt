@@ -1,10 +1,30 @@
 -- The commands of a page (01, "Map image"): how long each is, and which one stands at an offset.
-use Rattle.std.specs.Prelude.{List, [], ◌∷◌, ℕ, ◌+◌, length, get_or, ltb, leb, eqb}
+use Rattle.std.specs.Prelude.{List, [], ◌∷◌, ℕ, ◌+◌, length, get_or, ltb, leb, eqb, Result, Ok, Err}
 use Rattle.common.specs.Pick.{pick}
 use Rattle.image.specs.Bytes.{word}
 use Rattle.commands.specs.declared.Move.{Move}
-use Rattle.commands.specs.declared.Command.{Command}
-use Rattle.commands.specs.declared.Command.TheVariants.{End, Station, MoveTo, Limited, Fault}
+use Rattle.commands.specs.declared.Command as declared
+use Rattle.image.specs.declared.Fault as image
+use Rattle.image.specs.Image.{fault_number}
+
+-- A command, or the number of the fault that stands in its place.
+pub data Command : Type 0 where
+  End : Command
+  Station : ℕ → Command
+  MoveTo : Move → Command
+  Limited : Move → Command
+  Fault : ℕ → Command
+
+-- What the code's result is: the command that it read, or its fault's number.
+abbrev pub command_of : declared.Command → Command
+command_of declared.TheVariants.End = End
+command_of (declared.TheVariants.Station v) = Station v
+command_of (declared.TheVariants.MoveTo m) = MoveTo m
+command_of (declared.TheVariants.Limited m) = Limited m
+
+abbrev pub command_in : Result declared.Command image.Fault → Command
+command_in (Ok x) = command_of x
+command_in (Err fault) = Fault (fault_number fault)
 
 -- "`00` .. (1 byte)", "`01` .. (3 bytes)", "`02` .. (5 bytes)"; C-11: `03` with a third u16, so 7 bytes.
 abbrev pub length_of : ℕ → ℕ

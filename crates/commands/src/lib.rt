@@ -3,9 +3,10 @@
 
 #![tactic(auto)]
 
-ghost use Rattle.std.specs.Prelude.{◌≡◌, ◌+◌, ◌≤◌, ◌<◌, leb, length};
-ghost use Rattle.commands.specs.Commands.{length_of, move_with, command_at};
+ghost use Rattle.std.specs.Prelude.{◌≡◌, ◌+◌, ◌≤◌, ◌<◌, length, MatchResult};
+ghost use Rattle.commands.specs.Commands.{length_of, move_with, command_at, command_in};
 
+use image::Fault;
 use image::bytes::word_within;
 
 // A move of a page: command `02` or `03`. The limit is the longest strip that it takes, in decimetres; 0 is no limit.
@@ -16,16 +17,17 @@ pub struct Move {
     pub limit: u16,
 }
 
-// The command at an offset of a page, or the number of its fault. A station is an index: docs/DECISIONS.md says why,
-// under "C-11: a move that lacks its limit".
-#[derive(Clone, Copy)]
+// The command at an offset of a page. A station is an index: docs/DECISIONS.md says why, under "C-11: a move that lacks
+// its limit".
+#[derive(Clone, Copy, Debug, PartialEq, Eq)]
 pub enum Command {
     End,
     Station(usize),
     MoveTo(Move),
     Limited(Move),
-    Fault(u8),
 }
+
+// The codes are numbers and no enum: length_of, which docs/DECISIONS.md names (C-13), takes a code and computes with it.
 
 // `01` begins a station.
 pub const STATION: u8 = 1;
@@ -45,13 +47,18 @@ pub fn length_of(code: u8) -> usize
     1 + 2 * (code as usize)
 }
 
-// Whether a command of this code, which stands at an offset of a page, ends within it.
-fn fits(page: &[u8], at: usize, code: u8) -> bool
+// A command of this code, which stands at an offset of a page, ends within it.
+fn fits(page: &[u8], at: usize, code: u8) -> Result<(), Fault>
     requires known { code < 4 }
     requires inside { at < length page.now }
-    ensures value { result ≡ leb (at + length_of code) (length page.now) }
+    ensures value { MatchResult result (λ done. at + length_of code ≤ length page.now)
+        (λ fault. (fault ≡ Fault.PageOverrun) × (length page.now < at + length_of code)) }
 {
-    at + length_of(code) <= page.len()
+    if at + length_of(code) <= page.len() {
+        Ok(())
+    } else {
+        Err(Fault::PageOverrun)
+    }
 }
 
 // The move of a command at an offset, of either code, with a limit that was read or is none.
@@ -70,34 +77,28 @@ fn move_with(page: &[u8], at: usize, limit: u16) -> Move
 
 // The command at an offset, or 8 or 9 as its fault. Each code is tested by itself, so that its length is known when the
 // program is compiled; `02`, the most frequent, comes first, then those below it, then those above.
-pub fn command_at(page: &[u8], at: usize) -> Command
-    ensures value { result ≡ command_at page.now at }
+#[tactic(auto, unfolding(crate::specs::Commands::command_at))]
+pub fn command_at(page: &[u8], at: usize) -> Result<Command, Fault>
+    ensures value { command_in result ≡ command_at page.now at }
 {
-    if page.len() <= at {
-        return Command::Fault(9);
-    }
-    let code = page[at];
+    let Some(&code) = page.get(at) else {
+        return Err(Fault::PageOverrun);
+    };
     if code == MOVE {
-        if fits(page, at, MOVE) {
-            return Command::MoveTo(move_with(page, at, 0));
-        }
-        return Command::Fault(9);
+        fits(page, at, MOVE)?;
+        return Ok(Command::MoveTo(move_with(page, at, 0)));
     }
     if code < MOVE {
         if code == STATION {
-            if fits(page, at, STATION) {
-                return Command::Station(word_within(page, at + 1) as usize);
-            }
-            return Command::Fault(9);
+            fits(page, at, STATION)?;
+            return Ok(Command::Station(word_within(page, at + 1) as usize));
         }
-        return Command::End;
+        return Ok(Command::End);
     }
     if code == LIMITED {
-        if fits(page, at, LIMITED) {
-            let limit = word_within(page, at + 5);
-            return Command::Limited(move_with(page, at, limit));
-        }
-        return Command::Fault(9);
+        fits(page, at, LIMITED)?;
+        let limit = word_within(page, at + 5);
+        return Ok(Command::Limited(move_with(page, at, limit)));
     }
-    Command::Fault(8)
+    Err(Fault::UnknownCode)
 }

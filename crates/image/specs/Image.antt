@@ -1,10 +1,12 @@
 -- The parts of a map image (01, "Map image"), refusals 1 to 5, and what it means that two images agree.
-use Rattle.std.specs.Prelude.{◌≡◌, not, ◌||◌, List, [], ◌∷◌, ℕ, suc, ◌+◌, ◌*◌, length, take, ltb, eqb}
+use Rattle.std.specs.Prelude.{◌≡◌, not, ◌||◌, List, [], ◌∷◌, ℕ, suc, ◌+◌, ◌*◌, length, take, ltb, eqb, Result, Ok, Err}
 use Rattle.common.specs.Pick.{pick}
-use Rattle.image.specs.declared.Checked.{Checked}
-use Rattle.image.specs.declared.Checked.TheVariants.{Whole, Refused}
-use Rattle.image.specs.declared.Place as declared
-use Rattle.image.specs.declared.Place.TheVariants.{Nowhere, AtStation, OnPage}
+use Rattle.image.specs.declared.Fault.{Fault}
+use Rattle.image.specs.declared.Fault.TheVariants.{UnknownCode, PageOverrun, StationOrder, MoveBeforeStation, Target}
+use Rattle.image.specs.declared.Fault.TheVariants.{ByteAfterEnd, LimitZero}
+use Rattle.image.specs.declared.Refusal.{Refusal}
+use Rattle.image.specs.declared.Refusal.TheVariants.{ImageTooShort, StationCount, PageCount, ImageLength, Directory}
+use Rattle.image.specs.declared.Refusal.TheVariants.{Source, TableTooShort, BadPage}
 use Rattle.image.specs.Bytes.{word, part}
 
 -- "Heading: u16 station count N, u16 page count P. Directory: N bytes. P pages of 256 bytes."
@@ -53,14 +55,38 @@ after_heading accepted following = following
 after_heading (refused number place) following = refused number place
 
 -- What the checks' answer says in the paper's numbers.
-abbrev pub place_of : declared.Place → Place
-place_of Nowhere = nowhere
-place_of (AtStation station) = at_station station
-place_of (OnPage page offset) = on_page page offset
+abbrev pub fault_number : Fault → ℕ
+fault_number UnknownCode = 8
+fault_number PageOverrun = 9
+fault_number StationOrder = 10
+fault_number MoveBeforeStation = 11
+fault_number Target = 12
+fault_number ByteAfterEnd = 14
+fault_number LimitZero = 18
 
-abbrev pub outcome_of : Checked → Outcome
-outcome_of Whole = accepted
-outcome_of (Refused refusal) = refused refusal.number (place_of refusal.place)
+abbrev pub number_of : Refusal → ℕ
+number_of ImageTooShort = 1
+number_of StationCount = 2
+number_of PageCount = 3
+number_of ImageLength = 4
+number_of (Directory station) = 5
+number_of Source = 6
+number_of TableTooShort = 7
+number_of (BadPage bad) = fault_number bad.fault
+
+abbrev pub place_of : Refusal → Place
+place_of ImageTooShort = nowhere
+place_of StationCount = nowhere
+place_of PageCount = nowhere
+place_of ImageLength = nowhere
+place_of (Directory station) = at_station station
+place_of Source = nowhere
+place_of TableTooShort = nowhere
+place_of (BadPage bad) = on_page bad.page bad.offset
+
+abbrev pub outcome_of : Result Unit Refusal → Outcome
+outcome_of (Ok whole) = accepted
+outcome_of (Err refusal) = refused (number_of refusal) (place_of refusal)
 
 -- "Two images agree on heading, directory or a page if the bytes there are equal, as far as the images reach."
 abbrev pub AgreeOnHeading : List ℕ → List ℕ → Type 0

@@ -5,32 +5,87 @@
 
 ghost use Rattle.std.specs.Prelude.{◌≡◌, ◌≤◌, ◌<◌, ◌||◌, eqb, ltb, length};
 ghost use Rattle.image.specs.Image.{station_count, page_count, directory_of, page_bytes, first_not_below};
-ghost use Rattle.image.specs.Image.{refused, heading_check, place_of, outcome_of};
+ghost use Rattle.image.specs.Image.{heading_check, fault_number, number_of, outcome_of};
+ghost use Rattle.image.specs.declared.Refusal.TheVariants.{BadPage};
 
 pub mod bytes;
 
 use bytes::{greatest, part_of, word_at};
 
-// The place that a refusal names.
-#[derive(Clone, Copy)]
-pub enum Place {
-    Nowhere,
-    AtStation(u16),
-    OnPage { page: u8, offset: usize },
+// The fault of a page's first bad command.
+#[derive(Clone, Copy, Debug, PartialEq, Eq)]
+pub enum Fault {
+    UnknownCode,
+    PageOverrun,
+    StationOrder,
+    MoveBeforeStation,
+    Target,
+    ByteAfterEnd,
+    LimitZero,
 }
 
-// A refusal: document 01's number, and its place.
-#[derive(Clone, Copy)]
-pub struct Refusal {
-    pub number: u8,
-    pub place: Place,
+impl Fault {
+    // Document 01's number of it.
+    pub fn number(self) -> u8
+        ensures value { result ≡ fault_number self }
+    {
+        match self {
+            Fault::UnknownCode => 8,
+            Fault::PageOverrun => 9,
+            Fault::StationOrder => 10,
+            Fault::MoveBeforeStation => 11,
+            Fault::Target => 12,
+            Fault::ByteAfterEnd => 14,
+            Fault::LimitZero => 18,
+        }
+    }
 }
 
-// What a check of an image found: all good, or its first refusal.
-#[derive(Clone, Copy)]
-pub enum Checked {
-    Whole,
-    Refused(Refusal),
+// A page that is at fault, with the offset of its first bad command.
+#[derive(Clone, Copy, Debug, PartialEq, Eq)]
+pub struct BadPage {
+    pub fault: Fault,
+    pub page: u8,
+    pub offset: usize,
+}
+
+// What a check of a call refuses, with the place that it names.
+#[derive(Clone, Copy, Debug, PartialEq, Eq)]
+pub enum Refusal {
+    ImageTooShort,
+    StationCount,
+    PageCount,
+    ImageLength,
+    Directory { station: u16 },
+    Source,
+    TableTooShort,
+    BadPage(BadPage),
+}
+
+impl Refusal {
+    // Document 01's number of it.
+    pub fn number(self) -> u8
+        ensures value { result ≡ number_of self }
+    {
+        match self {
+            Refusal::ImageTooShort => 1,
+            Refusal::StationCount => 2,
+            Refusal::PageCount => 3,
+            Refusal::ImageLength => 4,
+            Refusal::Directory { .. } => 5,
+            Refusal::Source => 6,
+            Refusal::TableTooShort => 7,
+            Refusal::BadPage(bad) => bad.fault.number(),
+        }
+    }
+}
+
+impl From<BadPage> for Refusal {
+    ghost from_gives = { λ bad refusal. refusal ≡ BadPage bad };
+
+    fn from(bad: BadPage) -> Refusal {
+        Refusal::BadPage(bad)
+    }
 }
 
 pub fn station_count(image: &[u8]) -> usize
@@ -47,12 +102,14 @@ pub fn page_count(image: &[u8]) -> usize
     word_at(image, 2) as usize
 }
 
+#[tactic(auto, unfolding(crate::specs::Image::directory_of))]
 pub fn directory_of(image: &[u8]) -> &[u8]
     ensures part { result.now ≡ directory_of image.now }
 {
     part_of(image, 4, station_count(image))
 }
 
+#[tactic(auto, using(crate::proofs::Parts::page_short), unfolding(crate::specs::Image::page_bytes))]
 pub fn page_of(image: &[u8], p: u8) -> &[u8]
     ensures part { result.now ≡ page_bytes image.now p }
     ensures short { length result.now ≤ 256 }
@@ -69,50 +126,43 @@ pub fn first_not_below(directory: &[u8], limit: usize) -> usize
     if (greatest(directory) as usize) < limit {
         return directory.len();
     }
-    let mut i: usize = 0;
-    while i < directory.len() {
-        if limit <= directory[i] as usize {
-            return i;
-        }
-        i += 1;
-    }
-    i
-}
-
-pub fn refuse(number: u8, place: Place) -> Checked
-    ensures outcome { outcome_of result ≡ refused number (place_of place) }
-{
-    Checked::Refused(Refusal { number, place })
+    directory
+        .iter()
+        .position(|d| limit <= *d as usize)
+        .unwrap_or(directory.len())
 }
 
 // Whether a count is 0 or above its limit.
 pub fn outside(count: usize, limit: usize) -> bool
     ensures value { result ≡ (eqb count 0 || ltb limit count) }
 {
-    count == 0 || limit < count
+    !(1..=limit).contains(&count)
 }
 
 // Refusals 1 to 5, in this order.
-pub fn check_heading(image: &[u8]) -> Checked
+#[tactic(auto, unfolding(crate::specs::Image::heading_check))]
+pub fn check_heading(image: &[u8]) -> Result<(), Refusal>
     ensures outcome { outcome_of result ≡ heading_check image.now }
 {
     if image.len() < 4 {
-        return refuse(1, Place::Nowhere);
+        return Err(Refusal::ImageTooShort);
     }
     let stations = station_count(image);
     if outside(stations, 2048) {
-        return refuse(2, Place::Nowhere);
+        return Err(Refusal::StationCount);
     }
     let pages = page_count(image);
     if outside(pages, 240) {
-        return refuse(3, Place::Nowhere);
+        return Err(Refusal::PageCount);
     }
     if image.len() != 4 + stations + 256 * pages {
-        return refuse(4, Place::Nowhere);
+        return Err(Refusal::ImageLength);
     }
     let station = first_not_below(directory_of(image), pages);
     if station < stations {
-        return refuse(5, Place::AtStation(station as u16));
+        return Err(Refusal::Directory {
+            station: station as u16,
+        });
     }
-    Checked::Whole
+    Ok(())
 }

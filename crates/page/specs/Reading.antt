@@ -1,13 +1,11 @@
 -- What reading a page gives: its content, or the number and the offset of the first command at fault (01, "Map image").
-use Rattle.std.specs.Prelude.{List, [], ◌∷◌, ℕ, zero, suc, ◌+◌, length, eqb}
+use Rattle.std.specs.Prelude.{List, [], ◌∷◌, ℕ, zero, suc, ◌+◌, length, eqb, Result, Ok, Err}
 use Rattle.common.specs.Pick.{pick}
-use Rattle.image.specs.Image.{directory_of, page_bytes}
+use Rattle.image.specs.Image.{directory_of, page_bytes, fault_number}
 use Rattle.commands.specs.declared.Move.{Move}
-use Rattle.commands.specs.declared.Command.TheVariants.{End, Station, MoveTo, Limited, Fault}
-use Rattle.commands.specs.Commands.{width_of}
+use Rattle.commands.specs.Commands.{End, Station, MoveTo, Limited, Fault, width_of}
 use Rattle.rules.specs.Rules.{next_on, judged_at}
-use Rattle.page.specs.declared.Verdict.{Verdict}
-use Rattle.page.specs.declared.Verdict.TheVariants.{Good, Bad}
+use Rattle.page.specs.declared.BadCommand.{BadCommand}
 
 -- A station of a page with its moves in page order.
 pub record Leaving : Type 0 where
@@ -45,13 +43,21 @@ module _ (directory : List ℕ) (p : ℕ) (page : List ℕ) where
   unfoldable pub read_page : Reading
   read_page = read_from (suc (length page)) 0 0 0
 
--- What reading page p of an image gives, and what the reader's answer says of it.
+-- What reading page p of an image gives, the verdict on it, and what the reader's answer says of that.
 unfoldable pub reading_of : List ℕ → ℕ → Reading
 reading_of image p = read_page (directory_of image) p (page_bytes image p)
+
+pub data Verdict : Type 0 where
+  Good : Verdict
+  Bad : ℕ → ℕ → Verdict
 
 abbrev pub verdict_of : Reading → Verdict
 verdict_of (good moves stations) = Good
 verdict_of (bad number offset) = Bad number offset
+
+abbrev pub verdict_in : Result Unit BadCommand → Verdict
+verdict_in (Ok read) = Good
+verdict_in (Err first) = Bad (fault_number first.fault) first.offset
 
 -- The moves that a page's content has for station u: those of its entry, or none.
 unfoldable pub moves_in : List Leaving → ℕ → List Move

@@ -4,19 +4,19 @@
 ghost use Rattle.std.specs.Prelude.{◌≡◌, List, ◌≤◌, length};
 ghost use Rattle.layout.specs.Places.{Placed};
 ghost use Rattle.commands.specs.declared.Move.{Move};
-ghost use Rattle.page.specs.Reading.{Leaving, good, read_page, verdict_of};
+ghost use Rattle.page.specs.Reading.{Leaving, good, read_page, verdict_in, verdict_of};
 ghost use Rattle.page.specs.Laying.{PageLaid, OthersKept};
 
-use super::Verdict;
+use super::BadCommand;
 use commands::{Command, LIMITED, MOVE, STATION, length_of};
 use layout::moves::{PAGE_MOVES, ROOM_FROM};
 use layout::places::first_slot;
 use rows::{begin_row, lay_limited, lay_move, least_behind};
 use rules::judged_at;
 
-// Reads page p: good, or the number and the offset of the first command at fault. Each station that is named begins a
-// row, and its moves that are open to the strip are laid out there as they are read; the rows stand one behind the
-// other in the page's own room. The stations are placed, so that the one that is due is known by its slot.
+// Reads page p: good, or the first command at fault. Each station that is named begins a row, and its moves that are
+// open to the strip are laid out there as they are read; the rows stand one behind the other in the page's own room. The
+// stations are placed, so that the one that is due is known by its slot.
 pub fn read_page(
     directory: &[u8],
     places: &[u16],
@@ -24,11 +24,11 @@ pub fn read_page(
     page: &[u8],
     strip: u16,
     layout: &mut [u32],
-) -> Verdict
+) -> Result<(), BadCommand>
     requires placed { Placed directory.now places.now }
     requires short { length page.now ≤ 256 }
     requires table { length layout.old ≡ 17152 }
-    ensures verdict { result ≡ verdict_of (read_page directory.now p page.now) }
+    ensures verdict { verdict_in result ≡ verdict_of (read_page directory.now p page.now) }
     ensures laid { (moves : List Move) (stations : List Leaving)
         → read_page directory.now p page.now ≡ good moves stations
         → PageLaid directory.now p strip stations layout.new }
@@ -39,25 +39,25 @@ pub fn read_page(
     let mut at: usize = 0;
     let mut after: usize = 0;
     let mut least: usize = 0;
-    let mut number: u8 = 0;
+    let fault;
     let mut k = ROOM_FROM + PAGE_MOVES * (p as usize);
     let offset = 'page: loop {
         let station = loop {
             match judged_at(directory, places, past, page, at, due, after, least) {
-                Command::MoveTo(m) => {
+                Ok(Command::MoveTo(m)) => {
                     k = lay_move(layout, after - 1, k, m);
                     least = least_behind(m);
                     at += length_of(MOVE);
                 }
-                Command::Limited(m) => {
+                Ok(Command::Limited(m)) => {
                     k = lay_limited(layout, after - 1, k, strip, m);
                     least = least_behind(m);
                     at += length_of(LIMITED);
                 }
-                Command::Station(v) => break v,
-                Command::End => return Verdict::Good,
-                Command::Fault(fault) => {
-                    number = fault;
+                Ok(Command::Station(v)) => break v,
+                Ok(Command::End) => return Ok(()),
+                Err(found) => {
+                    fault = found;
                     break 'page at;
                 }
             }
@@ -68,5 +68,5 @@ pub fn read_page(
         least = 0;
         at += length_of(STATION);
     };
-    Verdict::Bad { number, offset }
+    Err(BadCommand { fault, offset })
 }

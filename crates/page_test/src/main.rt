@@ -11,7 +11,7 @@
 ghost use Rattle.layout.specs.Places.{Placed};
 
 use image::bytes::{byte_at, word_at};
-use image::{Checked, check_heading, directory_of, page_count};
+use image::{check_heading, directory_of, page_count};
 use layout::places::{PLACES, place};
 use readings_io::answers::{of_image, of_page, print};
 use readings_io::runs::{begun, ended, extended};
@@ -57,9 +57,8 @@ fn print_answers(image: &[u8]) {
     io::write_all(STDOUT_FILENO, b"  whole check: ");
     print(of_image(image));
     io::write_all(STDOUT_FILENO, b"\n");
-    match check_heading(image) {
-        Checked::Whole => print_pages(image),
-        Checked::Refused(_) => {}
+    if check_heading(image).is_ok() {
+        print_pages(image);
     }
 }
 

@@ -1,7 +1,7 @@
 // Numbers from 0 on with an answer for each, printed as runs of equal answers, such as
 // `0 good, 1-255 refused 14 page 0 offset 3`.
 
-use super::answers::{Answer, print, same};
+use super::answers::{Answer, print};
 use crate::STDOUT_FILENO;
 
 // The numbers from `from` to `to`, which all have the same answer.
@@ -36,8 +36,7 @@ fn print_run(run: Run) {
 // The run with the next number taken in. Where that number's answer is another one, the run is printed and a new one
 // begins.
 pub fn extended(run: Run, at: u8, answer: Answer) -> Run {
-    let before = run.answer;
-    if same(before, answer) {
+    if run.answer == answer {
         return Run {
             from: run.from,
             to: at,

@@ -1,9 +1,8 @@
 -- A page that is read, and found good, is known from then on, and so are the pages that were known before.
 use Rattle.common.proofs.Ground.{◌≡◌, refl, ◌≢◌, dite, List, ℕ, ℕ_discrete, length, get_or}
 use Rattle.commands.specs.declared.Move.{Move}
-use Rattle.page.specs.declared.Verdict.{Verdict}
 use Rattle.image.specs.Image.{directory_of}
-use Rattle.page.specs.Reading.{Reading, Leaving, good, bad, reading_of, verdict_of}
+use Rattle.page.specs.Reading.{Verdict, Reading, Leaving, good, bad, reading_of, verdict_of}
 use Rattle.page.specs.Laying.{PageLaid, OthersKept}
 use Rattle.reference.specs.Standing.{PageKnown, Known, Fetched}
 

@@ -5,10 +5,8 @@ use Rattle.net.specs.declared.Choice.TheVariants.{Nobody}
 use Rattle.net.specs.Search.{refused}
 use Rattle.net.specs.Run.{first_waiting}
 use Rattle.commands.specs.declared.Move.{Move}
-use Rattle.page.specs.declared.Verdict.{Verdict}
-use Rattle.page.specs.declared.Verdict.TheVariants.{Good, Bad}
 use Rattle.image.specs.Image.{directory_of, page_count, heading_check, accepted}
-use Rattle.page.specs.Reading.{Leaving, good, bad, reading_of}
+use Rattle.page.specs.Reading.{Verdict, Good, Bad, Leaving, good, bad, reading_of}
 use Rattle.page.specs.Laying.{PageLaid}
 use Rattle.layout.specs.Rows.{end_of}
 use Rattle.cells.specs.Cells.{Memory}

@@ -6,7 +6,7 @@ use Rattle.layout.specs.Places.{Placed, first_slot, slot_of}
 use Rattle.layout.specs.Due.{Due, Next}
 use Rattle.common.proofs.Cases.{by_order}
 use Rattle.layout.proofs.Due.{due_is_next, next_is_due, due_has_next, due_none_left}
-use Rattle.commands.specs.declared.Command.TheVariants.{Station, Fault}
+use Rattle.commands.specs.Commands.{Station, Fault}
 use Rattle.rules.specs.Rules.{first_on, next_on, judge_station, judge_end}
 
 -- behind an entry that is not the page's

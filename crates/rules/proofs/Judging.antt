@@ -4,10 +4,8 @@ use Rattle.common.proofs.Ground.{◌≡◌, ◌≢◌, refl, subst, true, List, 
 use Rattle.common.proofs.Ground.{leb-false, ltb-true, ltb-false, eqb-true, eqb-false, ne_eqb, tests}
 use Rattle.common.proofs.Cases.{by_pick}
 use Rattle.commands.specs.declared.Move.{Move}
-use Rattle.commands.specs.declared.Command.{Command}
-use Rattle.commands.specs.declared.Command.TheVariants.{End, Station, MoveTo, Limited, Fault}
 use Rattle.image.specs.Bytes.{all_zero}
-use Rattle.commands.specs.Commands.{command_at}
+use Rattle.commands.specs.Commands.{Command, End, Station, MoveTo, Limited, Fault, command_at}
 use Rattle.rules.specs.Rules.{judge_end, judge_station, move_fault, judge_move, judge_limited, judge}
 use Rattle.rules.specs.Rules.{judged_at}
 use Rattle.commands.proofs.Lengths.{OfPage, Stands, stands}

@@ -1,11 +1,11 @@
 -- The rules at one command of a page (01, "Map image"): it is itself, or the number of its fault.
-use Rattle.std.specs.Prelude.{List, [], ◌∷◌, ℕ, suc, ◌+◌, drop, ltb, leb, eqb}
+use Rattle.std.specs.Prelude.{List, [], ◌∷◌, ℕ, suc, ◌+◌, drop, ltb, leb, eqb, Result, Ok, Err}
 use Rattle.common.specs.Pick.{pick}
 use Rattle.image.specs.Bytes.{all_zero}
 use Rattle.commands.specs.declared.Move.{Move}
-use Rattle.commands.specs.declared.Command.{Command}
-use Rattle.commands.specs.declared.Command.TheVariants.{End, Station, MoveTo, Limited, Fault}
-use Rattle.commands.specs.Commands.{command_at}
+use Rattle.image.specs.declared.Fault as image
+use Rattle.image.specs.Image.{fault_number}
+use Rattle.commands.specs.Commands.{Command, End, Station, MoveTo, Limited, Fault, command_at}
 
 -- The first station from `from` on that the directory gives page p, or the number of stations.
 unfoldable pub first_on : ℕ → List ℕ → ℕ
@@ -35,6 +35,11 @@ move_fault size after least m =
     (pick (leb size m.target) 12
     (pick (eqb (m.target + 1) after) 12
     (pick (ltb m.target least) 12 0)))
+
+-- What the code's test of these rules says: the number of the one that is broken, or 0.
+abbrev pub fault_in : Result Unit image.Fault → ℕ
+fault_in (Ok kept) = 0
+fault_in (Err fault) = fault_number fault
 
 unfoldable pub judge_move : ℕ → ℕ → ℕ → Move → Command
 judge_move size after least m =

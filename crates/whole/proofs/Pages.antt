@@ -1,10 +1,8 @@
 -- The whole check's loop over the pages: what is left of the pages decides it, and the verdict on a page decides
 -- whether the pages behind it do.
 use Rattle.common.proofs.Ground.{◌≡◌, refl, List, ℕ, suc, ◌+◌, ◌-◌, ◌≤◌, ◌<◌, arith, add-one}
-use Rattle.page.specs.declared.Verdict.{Verdict}
-use Rattle.page.specs.declared.Verdict.TheVariants.{Good, Bad}
 use Rattle.image.specs.Image.{Outcome, accepted, refused, on_page}
-use Rattle.page.specs.Reading.{Reading, good, bad, reading_of, verdict_of}
+use Rattle.page.specs.Reading.{Verdict, Good, Bad, Reading, good, bad, reading_of, verdict_of}
 use Rattle.whole.specs.Check.{page_outcome, pages_from}
 
 -- The outcome of page p by its verdict, and behind it that of what follows.

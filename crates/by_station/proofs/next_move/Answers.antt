@@ -1,7 +1,6 @@
 -- By the command that stands there. A move ends within the page, so that the offset behind it fits.
 use Rattle.common.proofs.Ground.{◌≡◌, sym, ◌∙◌, arith}
-use Rattle.commands.specs.declared.Command.{Command}
-use Rattle.commands.specs.Commands.{command_at}
+use Rattle.commands.specs.Commands.{Command, command_at}
 use Rattle.commands.proofs.Lengths.{stands}
 use Rattle.by_station.proofs.next_move.Goals as goal
 

@@ -1,5 +1,9 @@
-use Rattle.common.proofs.Ground.{sym, ◌∙◌, zero-add}
-use Rattle.image.proofs.Scans.{not_below_here, not_below_onward, not_below_none, all-below}
+use Rattle.common.proofs.Ground.{◌≡◌, sym, ◌∙◌, ap, length, leb, rules, tests}
+use Rattle.std.specs.Prelude.{unwrap_or}
+use Rattle.std.specs.List.{position}
+use Rattle.std.proofs.lemmas.Iterator.{YieldsList-from_slice}
+use Rattle.std.proofs.lemmas.Iterator.Search.{position_from_yields_List}
+use Rattle.image.proofs.Scans.{first_by_position, all-below}
 use Rattle.image.proofs.first_not_below.Goals as goal
 
 pub returns-then-greatest-limit : goal.returns-then-greatest-limit
@@ -7,16 +11,12 @@ returns-then-greatest-limit c = record {
   value = sym (all-below _ _ _ c.if-greatest-limit.true c.greatest.ensures.most);
 }
 
-pub returns-then-limit-directory : goal.returns-then-limit-directory
-returns-then-limit-directory c = record {
-  value = sym (not_below_here _ _ _ c.loop-i-test.true c.if-limit-directory.true) ∙ c.loop-i.invariant ∙ zero-add _;
-}
-
-pub loop-i-preserved : goal.loop-i-preserved
-loop-i-preserved c =
-    sym (not_below_onward _ _ _ c.loop-i-test.true c.if-limit-directory.false) ∙ c.loop-i.invariant
-
 pub returns : goal.returns
-returns c = record {
-  value = sym (not_below_none _ _ _ c.loop-i-test.false) ∙ c.loop-i.invariant ∙ zero-add _;
-}
+returns c =
+    let d = c.args.directory.now in
+    let found : c.position.result ≡ position (leb c.args.limit) d =
+    position_from_yields_List (leb c.args.limit) _ _ c.position.result c.position.ensures.ran
+    (YieldsList-from_slice _ c.iter.ensures.rest) (λ x b q k. search (rules, tests)) in
+    record {
+      value = c.unwrap_or.ensures ∙ ap (λ place. unwrap_or place (length d)) found ∙ first_by_position c.args.limit d;
+    }

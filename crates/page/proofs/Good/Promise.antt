@@ -4,10 +4,9 @@ use Rattle.common.proofs.Ground.{◌≡◌, refl, ap, sym, ◌∙◌, subst, tru
 use Rattle.common.proofs.Ground.{◌%◌, arith, length, drop, replicate, length-drop, eqb, eqb-true}
 use Rattle.common.proofs.Cases.{by_pick, never}
 use Rattle.commands.specs.declared.Move.{Move}
-use Rattle.commands.specs.declared.Command.TheVariants.{End, Station}
 use Rattle.image.specs.Bytes.{all_zero, Bytes}
 use Rattle.page.specs.Reading.{Reading, good, bad, Leaving, with_move, with_station, read_page}
-use Rattle.commands.specs.Commands.{length_of, width_of}
+use Rattle.commands.specs.Commands.{End, Station, length_of, width_of}
 use Rattle.page.specs.Good.{GoodMoves, GoodStations, names, GoodContent, spell_move, spell_moves, spell_stations}
 use Rattle.page.specs.Good.{spelled}
 use Rattle.page.proofs.Reading.Steps.{Found, FoundMove, by_commands}

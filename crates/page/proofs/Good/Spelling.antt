@@ -6,10 +6,8 @@ use Rattle.common.proofs.Ground.{length-drop, drop-cons, get_or-drop, eqb, eq-eq
 use Rattle.common.specs.Pick.{pick}
 use Rattle.common.proofs.Cases.{by_pick, never}
 use Rattle.commands.specs.declared.Move.{Move}
-use Rattle.commands.specs.declared.Command.{Command}
-use Rattle.commands.specs.declared.Command.TheVariants.{End, Station, MoveTo, Limited}
 use Rattle.image.specs.Bytes.{word, Bytes}
-use Rattle.commands.specs.Commands.{length_of, width_of, command_at}
+use Rattle.commands.specs.Commands.{Command, End, Station, MoveTo, Limited, length_of, width_of, command_at}
 use Rattle.page.proofs.Reading.Steps.{IsMove, unlimited, limited}
 use Rattle.page.specs.Good.{code_of, spell_limit, spell_move}
 use Rattle.commands.proofs.Lengths.{MoveStands, Stands, move_width, command_end, command_station, command_move}

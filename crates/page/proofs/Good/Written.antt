@@ -5,11 +5,9 @@ use Rattle.common.proofs.Ground.{◌≡◌, refl, ap, sym, ◌∙◌, true, ⊎_
 use Rattle.common.proofs.Ground.{arith, length, drop, replicate, length-drop, length-replicate, drop-drop}
 use Rattle.common.proofs.Cases.{never}
 use Rattle.commands.specs.declared.Move.{Move}
-use Rattle.commands.specs.declared.Command.{Command}
-use Rattle.commands.specs.declared.Command.TheVariants.{End, Station}
 use Rattle.image.specs.Bytes.{Bytes, all_zero}
 use Rattle.page.specs.Reading.{Reading, good, Leaving, with_move, with_station, read_from, read_page}
-use Rattle.commands.specs.Commands.{length_of, width_of, command_at}
+use Rattle.commands.specs.Commands.{Command, End, Station, length_of, width_of, command_at}
 use Rattle.rules.specs.Rules.{next_on}
 use Rattle.page.specs.Good.{GoodMoves, GoodStations, names, GoodContent, code_of, spell_moves, spell_stations}
 use Rattle.page.specs.Good.{spelled}

@@ -11,10 +11,8 @@ use Rattle.layout.specs.Rows.{entry_of, end_of}
 use Rattle.layout.specs.Due.{Due, Next}
 use Rattle.layout.proofs.Due.{due_start, due_step, next_is_due}
 use Rattle.commands.specs.declared.Move.{Move}
-use Rattle.commands.specs.declared.Command.{Command}
-use Rattle.commands.specs.declared.Command.TheVariants.{End, Station}
 use Rattle.page.specs.Reading.{Reading, good, bad, Leaving, with_move, with_station, moves_in}
-use Rattle.commands.specs.Commands.{length_of, width_of}
+use Rattle.commands.specs.Commands.{Command, End, Station, length_of, width_of}
 use Rattle.rules.specs.Rules.{next_on}
 use Rattle.page.specs.Reading.{read_from, read_page, verdict_of}
 use Rattle.page.specs.Open.{is_open}

@@ -2,10 +2,8 @@
 -- it holds of what is read behind that command, holds of every reading.
 use Rattle.common.proofs.Ground.{◌≡◌, refl, ap, ◌∙◌, List, [], ℕ, zero, suc, ◌+◌, ◌-◌, ◌≤◌, arith, length}
 use Rattle.commands.specs.declared.Move.{Move}
-use Rattle.commands.specs.declared.Command.{Command}
-use Rattle.commands.specs.declared.Command.TheVariants.{End, Station, MoveTo, Limited, Fault}
 use Rattle.page.specs.Reading.{Reading, good, bad, with_move, with_station, read_from}
-use Rattle.commands.specs.Commands.{length_of, width_of}
+use Rattle.commands.specs.Commands.{Command, End, Station, MoveTo, Limited, Fault, length_of, width_of}
 use Rattle.rules.specs.Rules.{next_on, judged_at}
 use Rattle.commands.proofs.Lengths.{MoveStands, OfPage}
 use Rattle.rules.proofs.Judging.{MoveKeeps, Keeps, Judged, judged}
