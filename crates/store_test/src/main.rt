@@ -41,7 +41,10 @@ fn print_call<R: Print>(rt: &R, bytes: &[u8], call: &[u8]) -> io::Result<()> {
     let table = &mut table[..(distances.count as usize).min(ENTRIES)];
     read_table(bytes, distances.from, table);
     let list = list.of(bytes);
-    print_answer(rt, replay(list, pages as usize, frames as usize, table, threshold))
+    print_answer(
+        rt,
+        replay(list, pages as usize, frames as usize, table, threshold),
+    )
 }
 
 fn print_answer<R: Print>(rt: &R, answer: Result<usize, ReplayRefusal>) -> io::Result<()> {
