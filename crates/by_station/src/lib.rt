@@ -15,18 +15,15 @@ use commands::{Command, LIMITED, MOVE, Move, STATION, command_at, length_of};
 use image::{directory_of, page_of};
 use move_record::MoveRecord;
 
-// How many pages a directory can name, whose entries are bytes.
-pub const PAGES: usize = 256;
-
 // The move that stands at an offset of a page, of the station before it, with the offset behind it; none where another
 // command stands there.
 pub fn next_move(page: &[u8], at: usize) -> Option<(Move, usize)>
     ensures value { result ≡ next_move page.now at }
 {
     match command_at(page, at) {
-        Command::MoveTo(m) => Some((m, at + length_of(MOVE))),
-        Command::Limited(m) => Some((m, at + length_of(LIMITED))),
-        Command::Station(_) | Command::End | Command::Fault(_) => None,
+        Ok(Command::MoveTo(m)) => Some((m, at + length_of(MOVE))),
+        Ok(Command::Limited(m)) => Some((m, at + length_of(LIMITED))),
+        Ok(Command::Station(_) | Command::End) | Err(_) => None,
     }
 }
 

@@ -1,138 +1,172 @@
-// What the test programs search_test, panel_test, records_test, order_test and store_test read alike, on standard
-// input: a row of maps (in the last, of lists and tables), all numbers little-endian. A map is the label's length (u8),
-// the number of its calls (u16), the image's length (u32), the label, the image, and the calls. A call is each
-// program's own; at its end are its changes, each an offset (u32) and the byte that the image has there from this call
-// on. Labels and changes are printed as they are read. And what such programs print alike: a refusal with its place.
+// What the test programs read alike, on standard input: numbers little-endian, labels, images. What search_test,
+// panel_test, records_test, order_test and store_test read is a row of maps (in the last three, of lists and tables). A
+// map is the label's length (u8), the number of its calls (u16), the image's length (u32), the label, the image, and the
+// calls. A call is each program's own; at its end are its changes, each an offset (u32) and the byte that the image has
+// there from this call on. Labels and changes are printed as they are read. And what such programs print alike: a
+// refusal with its place.
 
 #![tactic(auto)]
 
-use image::bytes::word_at;
-use image::{Place, Refusal};
+ghost use Rattle.std.specs.Prelude.{◌<◌};
 
-// The numbers of standard input and standard output.
-pub const STDIN_FILENO: i32 = 0;
-
-pub const STDOUT_FILENO: i32 = 1;
+use image::bytes::part_of;
+use image::{BadPage, Refusal};
+use std::{fmt, io};
+use streams::read_full;
 
 // The longest image of a case.
 pub const BYTES: usize = 70000;
 
-// The map at hand: its image, of this size, is at the front of the space, and so many of its calls come next. Where
-// there are none, the input has ended.
+// A map: its image, at the front of the space, and how many calls come next.
+#[derive(Drop)]
+struct Map<'a> {
+    image: &'a mut [u8],
+    calls: u16,
+}
+
+// A part of a case's bytes, by its offset and its length.
 #[derive(Clone, Copy)]
-pub struct Map {
-    pub size: u32,
-    pub calls: u16,
+pub struct Part {
+    pub from: u32,
+    pub count: u32,
 }
 
-// Prints a number behind some text.
-pub fn print_number(before: &[u8], number: u64) {
-    io::write_all(STDOUT_FILENO, before);
-    io::print_decimal(STDOUT_FILENO, number);
-}
+impl Part {
+    // The part that a call names at an offset, by two u32.
+    pub fn named(call: &[u8], at: u8) -> Part {
+        let at = usize::from(at);
+        Part {
+            from: u32::from_le_bytes(bytes_at(call, at)),
+            count: u32::from_le_bytes(bytes_at(call, at + 4)),
+        }
+    }
 
-fn print_on_page(page: u8, offset: usize) {
-    print_number(b", page ", page as u64);
-    print_number(b", offset ", offset as u64);
-}
-
-// Prints a refusal's number and the place that it names.
-pub fn print_refusal(refusal: Refusal) {
-    print_number(b"refused ", refusal.number as u64);
-    let place = refusal.place;
-    match place {
-        Place::Nowhere => {}
-        Place::AtStation(station) => print_number(b", station ", station as u64),
-        Place::OnPage { page, offset } => print_on_page(page, offset),
+    // It, as far as the bytes reach.
+    pub fn of(self, bytes: &[u8]) -> &[u8] {
+        part_of(bytes, self.from as usize, self.count as usize)
     }
 }
 
-// The u32 at an offset.
-pub fn long_at(s: &[u8], at: u8) -> u32 {
-    word_at(s, at as usize) as u32 + 65536 * (word_at(s, at as usize + 2) as u32)
-}
+// A refusal as text: its number, and the place that it names.
+#[derive(Clone, Copy)]
+pub struct Told(pub Refusal);
 
-fn put(image: &mut [u8], at: usize, value: u8) {
-    if at < image.len() {
-        image[at] = value;
+impl fmt::Display for Told {
+    fn fmt<W: fmt::Write>(&self, f: &mut fmt::Formatter<W>) -> fmt::Result {
+        write!(f, "refused {}", self.0.number())?;
+        match self.0 {
+            Refusal::Directory { station } => write!(f, ", station {station}"),
+            Refusal::BadPage(BadPage { page, offset, .. }) => {
+                write!(f, ", page {page}, offset {offset}")
+            }
+            _ => Ok(()),
+        }
     }
 }
 
-fn print_change(at: u32, value: u8) {
-    print_number(b"  byte ", at as u64);
-    print_number(b" becomes ", value as u64);
-    io::write_all(STDOUT_FILENO, b"\n");
+// So many bytes at an offset; past the end zeros.
+pub fn bytes_at<const N: usize>(s: &[u8], at: usize) -> [u8; N] {
+    let mut bytes = [0u8; N];
+    for (byte, value) in bytes.iter_mut().zip(s.iter().skip(at)) {
+        *byte = *value;
+    }
+    bytes
 }
 
-// Reads the next change and makes it.
-fn change_byte(image: &mut [u8]) {
-    let mut change = [0u8; 5];
-    io::read_full(STDIN_FILENO, &mut change);
-    let at = long_at(&change, 0);
-    print_change(at, change[4]);
-    put(image, at as usize, change[4]);
+// Reads until the buffer is full or the input ends, and says how many bytes were read.
+pub fn read<R: Input>(rt: &R, buffer: &mut [u8]) -> usize {
+    read_full(&mut rt.reader(), buffer).size
+}
+
+// Reads so many bytes. Past the input's end they are zeros.
+pub fn read_array<R: Input, const N: usize>(rt: &R) -> [u8; N]
+    requires size { N < 9223372036854775808 }
+{
+    let mut bytes = [0u8; N];
+    read(rt, &mut bytes);
+    bytes
+}
+
+// Sets a byte of an image, if it is there.
+pub fn put(image: &mut [u8], at: usize, value: u8) {
+    if let Some(byte) = image.get_mut(at) {
+        *byte = value;
+    }
 }
 
 // Reads so many changes and makes them.
-pub fn change_bytes(image: &mut [u8], changes: u8) {
-    let mut left = changes;
-    while left > 0 {
-        change_byte(image);
-        left -= 1;
+pub fn change_bytes<R: Input + Print>(rt: &R, image: &mut [u8], changes: u8) -> io::Result<()> {
+    for _ in 0..changes {
+        let change: [u8; 5] = read_array(rt);
+        let at = u32::from_le_bytes(bytes_at(&change, 0));
+        let value = change[4];
+        println!(rt; "  byte {at} becomes {value}")?;
+        put(image, at as usize, value);
     }
+    Ok(())
 }
 
-fn no_map() -> Map {
-    Map { size: 0, calls: 0 }
+// Copies a label of this length to a line of its own.
+pub fn copy_label<R: Input + Print>(rt: &R, size: u8) -> io::Result<()> {
+    let mut label = [0u8; 255];
+    let label = &mut label[..usize::from(size)];
+    read(rt, label);
+    rt.write_all(label)?;
+    println!(rt; "")
 }
 
 // Says that the input is not a row of whole maps.
-fn cut_off() -> Map {
-    io::write_all(STDOUT_FILENO, b"cut off\n");
-    no_map()
-}
-
-// Copies a label to a line of its own.
-fn print_label(label: &mut [u8]) {
-    io::read_full(STDIN_FILENO, label);
-    io::write_all(STDOUT_FILENO, label);
-    io::write_all(STDOUT_FILENO, b"\n");
-}
-
-fn read_label(size: u8) {
-    let mut label = [0u8; 255];
-    let n = io::count(size as isize, &label);
-    print_label(&mut label[..n]);
+pub fn cut_off<T, R: Print>(rt: &R) -> io::Result<Option<T>> {
+    println!(rt; "cut off")?;
+    Ok(None)
 }
 
 // Reads an image of this size into the front of the space, if that is large enough.
-fn read_image(space: &mut [u8], size: u32, calls: u16) -> Map {
-    let n = io::count(size as isize, space);
-    let got = io::read_full(STDIN_FILENO, &mut space[..n]);
-    if got < size as usize {
-        return cut_off();
+pub fn read_image<'a, R: Input + Print>(
+    rt: &R,
+    space: &'a mut [u8],
+    size: u32,
+) -> io::Result<Option<&'a mut [u8]>> {
+    let size = size as usize;
+    let n = size.min(space.len());
+    let image = &mut space[..n];
+    if read(rt, image) < size {
+        return cut_off(rt);
     }
-    Map { size, calls }
+    Ok(Some(image))
 }
 
-// Reads the next map up to its calls, and prints its label.
-pub fn read_map(space: &mut [u8]) -> Map {
+// Reads the next map up to its calls, and prints its label. A map with no calls ends the input too.
+fn read_map<'a, R: Input + Print>(rt: &R, space: &'a mut [u8]) -> io::Result<Option<Map<'a>>> {
     let mut head = [0u8; 7];
-    let got = io::read_full(STDIN_FILENO, &mut head);
-    if got == 0 {
-        return no_map();
+    if read(rt, &mut head) == 0 {
+        return Ok(None);
     }
-    read_label(head[0]);
-    read_image(space, long_at(&head, 3), word_at(&head, 1))
+    copy_label(rt, head[0])?;
+    let calls = u16::from_le_bytes(bytes_at(&head, 1));
+    match read_image(rt, space, u32::from_le_bytes(bytes_at(&head, 3)))? {
+        Some(image) if calls > 0 => Ok(Some(Map { image, calls })),
+        _ => Ok(None),
+    }
 }
 
-// What is at hand once a call was read: the same map, or the next one after the map's last call.
-pub fn after_call(space: &mut [u8], map: Map) -> Map {
-    if map.calls < 2 {
-        return read_map(space);
+// Reads the maps and their calls, of N bytes each, and answers each call with its map's image.
+pub fn run_cases<R: Input + Print, const N: usize, F: Fn(&mut [u8], &[u8]) -> io::Result<()>>(
+    rt: &R,
+    space: &mut [u8],
+    answer_call: F,
+) -> io::Result<()>
+    requires size { N < 9223372036854775808 }
+    requires callable { F.IsAlwaysCallable answer_call }
+{
+    for _ in 0..u64::MAX {
+        let Some(map) = read_map(rt, space)? else {
+            break;
+        };
+        for _ in 0..map.calls {
+            let call: [u8; N] = read_array(rt);
+            answer_call(map.image, &call)?;
+        }
     }
-    Map {
-        size: map.size,
-        calls: map.calls - 1,
-    }
+    Ok(())
 }

@@ -11,20 +11,20 @@ use Rattle.imaging.specs.Runs.{station_bytes}
 use Rattle.imaging.proofs.Placing.{placed_none, placed_twice}
 use Rattle.imaging.proofs.Spelling.{move-append}
 
--- `run` is the whole run, from record `first` on, and `left` what is left of it from record `next` on.
-pub record Writing (before : List ℕ) (from first : ℕ) (run : List Move) (table : List ℕ) (at next : ℕ)
+-- `run` is the whole run, and `left` what is left of it behind so many moves that are written.
+pub record Writing (before : List ℕ) (from : ℕ) (run : List Move) (table : List ℕ) (at written : ℕ)
     (left : List Move) : Type 0 where
   pub same : placed table at (spell_moves left []) ≡ placed before from (spell_moves run [])
   pub ends : at + length (spell_moves left []) ≡ from + length (spell_moves run [])
-  pub counted : next + length left ≡ first + length run
+  pub counted : written + length left ≡ length run
   pub same_length : length table ≡ length before
 
-module _ {before : List ℕ} {from first : ℕ} {run : List Move} {table : List ℕ} {at next : ℕ} {left : List Move} where
+module _ {before : List ℕ} {from : ℕ} {run : List Move} {table : List ℕ} {at written : ℕ} {left : List Move} where
   pub writing_more : (m : Move) (rest : List Move) → left ≡ m ∷ rest
       → from + length (spell_moves run []) ≤ length before
-      → Writing before from first run table at next left
+      → Writing before from run table at written left
       → (after : List ℕ) (behind : ℕ) → Put table at (spell_move m []) after behind
-      → Writing before from first run after behind (next + 1) rest
+      → Writing before from run after behind (written + 1) rest
   unfolding spell_moves
   writing_more m rest e room w after behind put =
       let spelled : spell_moves left [] ≡ spell_move m [] ++ spell_moves rest [] =
@@ -47,7 +47,7 @@ module _ {before : List ℕ} {from first : ℕ} {run : List Move} {table : List 
   -- the first move of those left has room
   pub writing_room : (m : Move) (rest : List Move) → left ≡ m ∷ rest
       → from + length (spell_moves run []) ≤ length before
-      → Writing before from first run table at next left → at + length (spell_move m []) ≤ length table
+      → Writing before from run table at written left → at + length (spell_move m []) ≤ length table
   unfolding spell_moves
   writing_room m rest e room w =
       let lengths : length (spell_moves left []) ≡ length (spell_move m []) + length (spell_moves rest []) =
@@ -55,8 +55,8 @@ module _ {before : List ℕ} {from first : ℕ} {run : List Move} {table : List 
       length-append (spell_move m []) (spell_moves rest []) in
       omega (arith, w.ends, w.same_length)
 
-  pub writing_over : left ≡ [] → Writing before from first run table at next left
-      → Put before from (spell_moves run []) table at × (next ≡ first + length run)
+  pub writing_over : left ≡ [] → Writing before from run table at written left
+      → Put before from (spell_moves run []) table at × (written ≡ length run)
   unfolding spell_moves
   writing_over none w =
       let nothing : spell_moves left [] ≡ [] = ap (λ l. spell_moves l []) none in (

@@ -1,60 +1,32 @@
 -- The run of a station's records at the front of those that are left. Where the records are by rising station, and none
 -- is left of a lower one, the run has all moves of the station, and behind it the records of higher stations are left.
 -- By induction over the records, with the cases of whether a record is the station's.
-use Rattle.common.proofs.Ground.{◌≡◌, ◌≢◌, refl, ap, sym, ◌∙◌, true, false, List, [], ◌∷◌, ℕ, zero, suc, ◌+◌, ◌-◌, ◌<◌}
+use Rattle.common.proofs.Ground.{◌≡◌, ◌≢◌, refl, ap, sym, ◌∙◌, true, false, List, [], ◌∷◌, ℕ, suc, ◌+◌, ◌<◌}
 use Rattle.common.proofs.Ground.{◌≤◌, ◌&&◌, arith, dite, ℕ_discrete, add-one, length, drop, eq-eqb, ne_eqb, Bool}
-use Rattle.common.proofs.Ground.{true≢false, dec_lt, le-ltb}
+use Rattle.common.proofs.Ground.{true≢false, dec_lt, le-ltb, get_or, drop-cons, drop_of_length-le}
 use Rattle.common.specs.Pick.{pick}
 use Rattle.move_record.specs.declared.MoveRecord.{MoveRecord}
-use Rattle.move_record.specs.Kept.{kept_record, kept_from}
-use Rattle.move_record.proofs.Keeping.{kept_length}
+use Rattle.move_record.specs.Records.{no_record}
 use Rattle.roundtrip.specs.Written.{move_of, moves_for, rising, rising_after, is_move, is_above}
-use Rattle.imaging.specs.Runs.{run_of, left_at, run_at, ByStation}
+use Rattle.imaging.specs.Runs.{run_of, ByStation}
 
--- Of kept records: those that are left, and their run, by the first of them.
-module _ (kept : List ℕ) (count k : ℕ) where
-  left_some : k < count → left_at kept count k ≡ kept_record kept k ∷ left_at kept count (k + 1)
-  unfolding kept_from
-  left_some h =
-      let n : count - k ≡ suc (count - (k + 1)) = omega arith in
-      ap (λ n. kept_from kept n k) n ∙ ap (λ i. kept_record kept k ∷ kept_from kept (count - (k + 1)) i) (sym (add-one k))
+-- The run of the records from index k on, by the first of them.
+module _ (records : List MoveRecord) (k u : ℕ) where
+  pub run_own : k < length records → (get_or records k no_record).from ≡ u
+      → run_of (drop k records) u ≡ move_of (get_or records k no_record) ∷ run_of (drop (k + 1) records) u
+  unfolding run_of
+  run_own h own = rw (add-one k, drop-cons records k no_record h, eq-eqb (get_or records k no_record).from u own)
 
-  left_none : count ≤ k → left_at kept count k ≡ []
-  unfolding kept_from
-  left_none h = let n : count - k ≡ 0 = omega arith in ap (λ n. kept_from kept n k) n
+  pub run_other : k < length records → (get_or records k no_record).from ≢ u → run_of (drop k records) u ≡ []
+  unfolding run_of
+  run_other h other = rw (drop-cons records k no_record h, ne_eqb (get_or records k no_record).from u other)
 
-  module _ (u : ℕ) where
-    pub run_own : k < count → (kept_record kept k).from ≡ u
-        → run_at kept count k u ≡ move_of (kept_record kept k) ∷ run_at kept count (k + 1) u
-    unfolding run_at run_of
-    run_own h own = rw (left_some h, eq-eqb (kept_record kept k).from u own)
-
-    pub run_other : k < count → (kept_record kept k).from ≢ u → run_at kept count k u ≡ []
-    unfolding run_at run_of
-    run_other h other = rw (left_some h, ne_eqb (kept_record kept k).from u other)
-
-    pub run_none : count ≤ k → run_at kept count k u ≡ []
-    unfolding run_at run_of
-    run_none h = rw (left_none h)
-
-drop_kept : (kept : List ℕ) (j n k : ℕ) → drop j (kept_from kept n k) ≡ kept_from kept (n - j) (k + j)
-unfolding kept_from
-drop_kept kept zero n k =
-    let e : n - 0 ≡ n = omega arith in let f : k + 0 ≡ k = omega arith in rw (e, f)
-drop_kept kept (suc j) zero k = let e : 0 - suc j ≡ 0 = omega arith in rw e
-drop_kept kept (suc j) (suc n) k =
-    let e : suc n - suc j ≡ n - j = omega arith in
-    let f : k + suc j ≡ suc k + j = omega arith in
-    rw (e, f) (drop_kept kept j n (suc k))
-
--- what is left behind so many more
-left_behind : (kept : List ℕ) (count k j : ℕ) → drop j (left_at kept count k) ≡ left_at kept count (k + j)
-left_behind kept count k j =
-    let e : count - k - j ≡ count - (k + j) = omega arith in
-    drop_kept kept j (count - k) k ∙ ap (λ n. kept_from kept n (k + j)) e
+  pub run_none : length records ≤ k → run_of (drop k records) u ≡ []
+  unfolding run_of
+  run_none h = rw (drop_of_length-le records h)
 
 -- Of any records.
-run_length : (records : List MoveRecord) (u : ℕ) → length (run_of records u) ≤ length records
+pub run_length : (records : List MoveRecord) (u : ℕ) → length (run_of records u) ≤ length records
 unfolding run_of
 run_length [] u = omega arith
 run_length (r ∷ rs) u =
@@ -97,34 +69,24 @@ run_later (r ∷ rs) u v h =
     rw (eq-eqb r.from u own, ne_eqb r.from v other) (run_later rs u v h))
     (λ other. rw (ne_eqb r.from u other))
 
--- What is left at station u: records by rising station from u on, with all moves of u and of the stations behind it.
-pub record LeftFor (records : List MoveRecord) (kept : List ℕ) (count k u : ℕ) : Type 0 where
-  pub inside : k ≤ count
-  pub by_station : ByStation u (left_at kept count k)
-  pub all_moves : (v : ℕ) → u ≤ v → moves_for (left_at kept count k) v ≡ moves_for records v
+-- Of the records those are left that station u and the stations behind it have, by rising station.
+pub record LeftFor (records left : List MoveRecord) (u : ℕ) : Type 0 where
+  pub by_station : ByStation u left
+  pub all_moves : (v : ℕ) → u ≤ v → moves_for left v ≡ moves_for records v
 
-module _ (kept : List ℕ) (count : ℕ) where
-  pub left_all : ByStation 0 (kept_from kept count 0) → LeftFor (kept_from kept count 0) kept count 0 0
-  left_all b =
-      let e : count - 0 ≡ count = omega arith in
-      record { inside = omega arith; by_station = rw e b; all_moves = λ v h. rw e }
+module _ (records : List MoveRecord) where
+  pub left_all : ByStation 0 records → LeftFor records records 0
+  left_all b = record { by_station = b; all_moves = λ v h. refl }
 
-  module _ (records : List MoveRecord) (k u : ℕ) (l : LeftFor records kept count k u) where
-    pub left_run : run_at kept count k u ≡ moves_for records u
-    unfolding run_at
-    left_run = sym (run_all (left_at kept count k) u l.by_station) ∙ l.all_moves u (omega arith)
+  module _ (left : List MoveRecord) (u : ℕ) (l : LeftFor records left u) where
+    pub left_run : run_of left u ≡ moves_for records u
+    left_run = sym (run_all left u l.by_station) ∙ l.all_moves u (omega arith)
 
-    pub left_next : LeftFor records kept count (k + length (run_at kept count k u)) (suc u)
-    unfolding run_at
-    left_next =
-        let run = length (run_of (left_at kept count k) u) in
-        record {
-          inside = omega (arith, run_length (left_at kept count k) u, kept_length kept (count - k) k, l.inside);
-          by_station = rw (← (left_behind kept count k run)) (run_behind (left_at kept count k) u l.by_station);
-          all_moves = λ v h.
-              rw (← (left_behind kept count k run))
-              (run_later (left_at kept count k) u v (omega arith) ∙ l.all_moves v (omega arith));
-        }
+    pub left_next : LeftFor records (drop (length (run_of left u)) left) (suc u)
+    left_next = record {
+      by_station = run_behind left u l.by_station;
+      all_moves = λ v h. run_later left u v (omega arith) ∙ l.all_moves v (omega arith);
+    }
 
 -- Records that rise by (from, target) are by rising station.
 both_second : (first second : Bool) → first && second ≡ true → second ≡ true

@@ -1,23 +1,15 @@
 -- The moves of one station, where its records stand first among those that are left: what the code writes in one go.
-use Rattle.std.specs.Prelude.{List, [], ◌∷◌, ℕ, ◌-◌, ◌/◌, ◌%◌, ◌≤◌, eqb}
+use Rattle.std.specs.Prelude.{List, [], ◌∷◌, ℕ, ◌/◌, ◌%◌, ◌≤◌, eqb}
 use Rattle.common.specs.Pick.{pick}
 use Rattle.commands.specs.declared.Move.{Move}
 use Rattle.page.specs.Good.{spell_moves}
 use Rattle.move_record.specs.declared.MoveRecord.{MoveRecord}
-use Rattle.move_record.specs.Kept.{kept_from}
 use Rattle.roundtrip.specs.Written.{move_of}
 
 -- The moves of the records at the front that are from station u.
 unfoldable pub run_of : List MoveRecord → ℕ → List Move
 run_of [] u = []
 run_of (r ∷ rs) u = let rest = run_of rs u in pick (eqb r.from u) (move_of r ∷ rest) []
-
--- Of so many kept records those that are left from index k on, and the run there.
-abbrev pub left_at : List ℕ → ℕ → ℕ → List MoveRecord
-left_at kept count k = kept_from kept (count - k) k
-
-unfoldable pub run_at : List ℕ → ℕ → ℕ → ℕ → List Move
-run_at kept count k u = run_of (left_at kept count k) u
 
 -- A station with its moves, as it is spelled.
 abbrev pub station_bytes : ℕ → List Move → List ℕ

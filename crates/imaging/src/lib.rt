@@ -1,16 +1,16 @@
-// The image of records that are kept as plain numbers, written into a buffer once nothing is refused (02, C-16).
+// The image of a list of records, written into a buffer once nothing is refused (02, C-16).
 
 #![tactic(auto)]
 
 ghost use Rattle.std.specs.Prelude.{◌≡◌, ◌++◌, ◌+◌, ◌*◌, ◌≤◌, length, drop};
-ghost use Rattle.move_record.specs.Kept.{kept_from};
 ghost use Rattle.roundtrip.specs.Written.{heading_for, written};
 ghost use Rattle.imaging.specs.Shaped.{Shaped, Writable};
 
 pub mod bytes;
 pub mod stations;
 
-use bytes::{copy_at, put_word};
+use bytes::put_word;
+use move_record::MoveRecord;
 use stations::write_pages;
 
 // Writes heading and directory.
@@ -22,25 +22,22 @@ fn write_front(size: u16, pages: u16, directory: &[u8], image: &mut [u8])
 {
     put_word(image, 0, size);
     put_word(image, 2, pages);
-    copy_at(image, 4, directory);
+    image[4..4 + directory.len()].copy_from_slice(directory);
 }
 
 // Writes the image.
 pub fn write_image(
-    kept: &[u16],
-    count: usize,
+    records: &[MoveRecord],
     size: u16,
     pages: u16,
     directory: &[u8],
     image: &mut [u8],
 )
-    requires memory { 4 * count ≤ length kept.now }
     requires shaped { Shaped size pages directory.now (length image.old) }
-    requires writable { Writable size pages directory.now (kept_from kept.now count 0) }
+    requires writable { Writable size pages directory.now records.now }
     ensures written { image.new
-        ≡ written size pages directory.now (kept_from kept.now count 0) }
+        ≡ written size pages directory.now records.now }
 {
     write_front(size, pages, directory, image);
-    let front = 4 + directory.len();
-    write_pages(kept, count, directory, &mut image[front..]);
+    write_pages(records, directory, &mut image[4 + directory.len()..]);
 }

@@ -2,30 +2,27 @@
 // by rising station, so that the moves of each station stand behind those of the station before it, and every record is
 // looked at once.
 
-ghost use Rattle.std.specs.Prelude.{◌≡◌, [], ◌∷◌, ◌+◌, ◌*◌, ◌/◌, ◌%◌, ◌≤◌, length, replicate};
+ghost use Rattle.std.specs.Prelude.{◌≡◌, [], ◌∷◌, ◌+◌, ◌/◌, ◌%◌, ◌≤◌, length};
 ghost use Rattle.common.specs.Window.{placed};
 ghost use Rattle.page.specs.Good.{spell_move, spell_moves};
-ghost use Rattle.move_record.specs.Kept.{kept_from};
 ghost use Rattle.roundtrip.specs.Written.{move_of, pages_for};
-ghost use Rattle.imaging.specs.Runs.{run_at, station_bytes};
+ghost use Rattle.imaging.specs.Runs.{run_of, station_bytes};
 ghost use Rattle.imaging.specs.Put.{Put};
 ghost use Rattle.imaging.specs.Fitting.{Fitting};
 
-use crate::bytes::{clear, put_word};
+use crate::bytes::put_word;
 use commands::{LIMITED, MOVE, STATION, length_of};
+use layout::places::PAGES;
 use move_record::MoveRecord;
-use move_record::kept::kept_record;
 
-// As many pages as a byte of the directory can name, and the bytes of a page.
-const PAGES: usize = 256;
-
+// The bytes of a page.
 const PAGE: usize = 256;
 
-// What comes behind a station that was written: the next record, and the offset behind its bytes.
+// A station that was written: how many records it has, and the offset behind its bytes.
 #[derive(Clone, Copy)]
-pub struct Behind {
-    pub next: usize,
-    pub at: usize,
+struct Behind {
+    written: usize,
+    at: usize,
 }
 
 // Puts what a command begins with: its code and a station.
@@ -43,109 +40,64 @@ fn put_move(bytes: &mut [u8], at: usize, given: MoveRecord) -> usize
     requires room { at + length (spell_move (move_of given) []) ≤ length bytes.old }
     ensures put { Put bytes.old at (spell_move (move_of given) []) bytes.new result }
 {
-    let limit = given.limit;
-    if limit == 0 {
+    if given.limit == 0 {
         put_command(bytes, at, MOVE, given.target);
         put_word(bytes, at + 3, given.time);
         return at + length_of(MOVE);
     }
     put_command(bytes, at, LIMITED, given.target);
     put_word(bytes, at + 3, given.time);
-    put_word(bytes, at + 5, limit);
+    put_word(bytes, at + 5, given.limit);
     at + length_of(LIMITED)
 }
 
-// Writes the moves of a station, whose records come first from index `first` on.
-fn write_moves(
-    kept: &[u16],
-    count: usize,
-    first: usize,
-    station: u16,
-    bytes: &mut [u8],
-    from: usize,
-) -> Behind
-    requires memory { (4 * count ≤ length kept.now) × (first ≤ count) }
-    requires room { from + length (spell_moves (run_at kept.now count first station) []) ≤ length bytes.old }
-    ensures put { Put bytes.old from (spell_moves (run_at kept.now count first station) [])
-        bytes.new result.at }
-    ensures next { result.next ≡ first + length (run_at kept.now count first station) }
+// Writes the moves of a station, whose records come first.
+fn write_moves(records: &[MoveRecord], station: u16, bytes: &mut [u8], from: usize) -> Behind
+    requires room { from + length (spell_moves (run_of records.now station) []) ≤ length bytes.old }
+    ensures put { Put bytes.old from (spell_moves (run_of records.now station) []) bytes.new result.at }
+    ensures written { result.written ≡ length (run_of records.now station) }
+    ensures inside { result.written ≤ length records.now }
 {
-    let mut next = first;
     let mut at = from;
-    while next < count {
-        let given = kept_record(kept, next);
+    for (written, &given) in records.iter().enumerate() {
         if given.from != station {
-            return Behind { next, at };
+            return Behind { written, at };
         }
         at = put_move(bytes, at, given);
-        next += 1;
     }
-    Behind { next, at }
+    Behind {
+        written: records.len(),
+        at,
+    }
 }
 
-// Writes a station with its moves.
-fn write_station(
-    kept: &[u16],
-    count: usize,
-    first: usize,
-    station: u16,
-    bytes: &mut [u8],
-    from: usize,
-) -> Behind
-    requires memory { (4 * count ≤ length kept.now) × (first ≤ count) }
-    requires room { from + length (station_bytes station (run_at kept.now count first station)) ≤ length bytes.old }
+// Writes a station with its moves, whose records come first.
+fn write_station(records: &[MoveRecord], station: u16, bytes: &mut [u8], from: usize) -> Behind
+    requires room { from + length (station_bytes station (run_of records.now station)) ≤ length bytes.old }
     ensures put { Put bytes.old from
-        (station_bytes station (run_at kept.now count first station)) bytes.new result.at }
-    ensures next { result.next ≡ first + length (run_at kept.now count first station) }
+        (station_bytes station (run_of records.now station)) bytes.new result.at }
+    ensures written { result.written ≡ length (run_of records.now station) }
+    ensures inside { result.written ≤ length records.now }
 {
     put_command(bytes, from, STATION, station);
-    write_moves(
-        kept,
-        count,
-        first,
-        station,
-        bytes,
-        from + length_of(STATION),
-    )
+    write_moves(records, station, bytes, from + length_of(STATION))
 }
 
-// Writes all stations on pages that are clear; `ends` holds how many bytes each page has so far.
-fn write_stations(
-    kept: &[u16],
-    count: usize,
-    directory: &[u8],
-    ends: &mut [usize],
-    bytes: &mut [u8],
-)
-    requires memory { 4 * count ≤ length kept.now }
-    requires fitting { Fitting directory.now (kept_from kept.now count 0) (length bytes.old) }
-    requires none { ends.old ≡ replicate 256 0 }
-    requires cleared { bytes.old ≡ replicate (length bytes.old) 0 }
+// Writes the pages of the records into a buffer that holds these and nothing else. It is known how many bytes each page
+// has so far.
+pub fn write_pages(records: &[MoveRecord], directory: &[u8], bytes: &mut [u8])
+    requires fitting { Fitting directory.now records.now (length bytes.old) }
     ensures written { bytes.new
-        ≡ pages_for directory.now (kept_from kept.now count 0)
-        (length bytes.old / 256) 0 }
-{
-    let mut next: usize = 0;
-    let mut u: usize = 0;
-    while u < directory.len() {
-        let p = directory[u] as usize;
-        let from = PAGE * p;
-        let behind = write_station(kept, count, next, u as u16, bytes, from + ends[p]);
-        next = behind.next;
-        ends[p] = behind.at - from;
-        u += 1;
-    }
-}
-
-// Writes the pages of the records into a buffer that holds these and nothing else.
-pub fn write_pages(kept: &[u16], count: usize, directory: &[u8], bytes: &mut [u8])
-    requires memory { 4 * count ≤ length kept.now }
-    requires fitting { Fitting directory.now (kept_from kept.now count 0) (length bytes.old) }
-    ensures written { bytes.new
-        ≡ pages_for directory.now (kept_from kept.now count 0)
-        (length bytes.old / 256) 0 }
+        ≡ pages_for directory.now records.now (length bytes.old / 256) 0 }
 {
     let mut ends = [0usize; PAGES];
-    clear(bytes);
-    write_stations(kept, count, directory, &mut ends, bytes);
+    bytes.fill(0);
+    let mut left = records;
+    for (u, &p) in directory.iter().enumerate() {
+        let p = p as usize;
+        let from = PAGE * p;
+        let behind = write_station(left, u as u16, bytes, from + ends[p]);
+        left = left.split_at(behind.written).1;
+        ends[p] = behind.at - from;
+    }
 }

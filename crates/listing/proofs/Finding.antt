@@ -1,25 +1,25 @@
 -- What is answered of an image: the refusal of the whole check; refusal 7, if the list is too short for the records
 -- that were kept; or their count.
-use Rattle.common.proofs.Ground.{◌≡◌, List, ℕ, ◌≤◌, ◌<◌, arith, length, lt-ltb, le-ltb}
+use Rattle.common.proofs.Ground.{◌≡◌, List, ℕ, ◌≤◌, ◌<◌, arith, length, take, lt-ltb, le-ltb}
 use Rattle.common.proofs.Cases.{never}
 use Rattle.image.specs.Bytes.{Bytes}
 use Rattle.image.specs.declared.Refusal.{Refusal}
-use Rattle.image.specs.declared.Place.TheVariants.{Nowhere}
-use Rattle.image.specs.Image.{accepted, refused, place_of}
+use Rattle.image.specs.declared.Refusal.TheVariants.{TableTooShort}
+use Rattle.image.specs.Image.{accepted, refused, number_of, place_of}
 use Rattle.whole.specs.Check.{whole_check}
-use Rattle.move_record.specs.Kept.{kept_from}
+use Rattle.move_record.specs.declared.MoveRecord.{MoveRecord}
 use Rattle.roundtrip.specs.Records.{records_of, read_check}
 use Rattle.roundtrip.specs.Promises.{WritesBack}
 use Rattle.roundtrip.proofs.Back.{image_writes_back}
 use Rattle.roundtrip.proofs.Few.{few_records_of}
-use Rattle.listing.specs.declared.ReadAnswer.TheVariants.{Listed, Refused}
+use Rattle.std.specs.Prelude.{Ok, Err}
 use Rattle.listing.specs.Found.{Found}
 
-module _ (image : List ℕ) (room : ℕ) (kept : List ℕ) where
+module _ (image : List ℕ) (room : ℕ) (kept : List MoveRecord) where
   -- the whole check refuses
   pub found_refused : (refusal : Refusal)
-      → whole_check image ≡ refused refusal.number (place_of refusal.place)
-      → Found image room (Refused refusal) kept
+      → whole_check image ≡ refused (number_of refusal) (place_of refusal)
+      → Found image room (Err refusal) kept
   unfolding read_check
   found_refused refusal e = record {
     outcome = rw e;
@@ -36,7 +36,7 @@ module _ (image : List ℕ) (room : ℕ) (kept : List ℕ) where
 
     -- the list is too short
     pub found_short : room < length (records_of image)
-        → Found image room (Refused (record { number = 7; place = Nowhere })) kept
+        → Found image room (Err TableTooShort) kept
     unfolding read_check
     found_short h = record {
       outcome = rw (whole, lt-ltb _ _ h);
@@ -47,8 +47,8 @@ module _ (image : List ℕ) (room : ℕ) (kept : List ℕ) where
       writes_back = writes_back;
     }
 
-    pub found-listed : (count : ℕ) → count ≡ length (records_of image) → kept_from kept count 0 ≡ records_of image
-        → count ≤ room → Found image room (Listed count) kept
+    pub found-listed : (count : ℕ) → count ≡ length (records_of image) → take count kept ≡ records_of image
+        → count ≤ room → Found image room (Ok count) kept
     unfolding read_check
     found-listed count counted records h = record {
       outcome = rw (whole, ← counted, le-ltb _ _ h);

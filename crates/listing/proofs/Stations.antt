@@ -1,14 +1,14 @@
 -- The records of a wholly good image are kept station by station: each page is read up to the stations that come, and
 -- what is kept are the records of those that came.
 use Rattle.common.proofs.Ground.{◌≡◌, refl, ap, sym, ◌∙◌, dite, List, [], ℕ, ◌+◌, ◌≤◌, ◌<◌, arith, ℕ_discrete}
-use Rattle.common.proofs.Ground.{length, length-append, get_or, set, length-set, replicate, get_or-replicate, get_or-set_same}
+use Rattle.common.proofs.Ground.{length, length-append, get_or, set, length-set, replicate, take, get_or-replicate, get_or-set_same}
 use Rattle.common.proofs.Ground.{get_or-set_other}
 use Rattle.image.specs.Bytes.{Bytes}
 use Rattle.image.specs.Image.{accepted, station_count, page_count, directory_of}
 use Rattle.image.proofs.Heading.{Formed, formed}
 use Rattle.whole.specs.Check.{whole_check}
 use Rattle.whole.proofs.Accepted.{wholly}
-use Rattle.move_record.specs.Kept.{kept_from}
+use Rattle.move_record.specs.declared.MoveRecord.{MoveRecord}
 use Rattle.roundtrip.specs.Records.{records_at, records_from, records_of}
 use Rattle.roundtrip.proofs.Few.{few_records_of}
 use Rattle.by_station.specs.Reached.{Reached}
@@ -17,21 +17,21 @@ use Rattle.listing.specs.Stations.{StationKept}
 use Rattle.listing.proofs.Records.{records_next, records_most}
 
 -- The stations below u came: their records are kept, and each page is read up to the others.
-pub record KeepingStations (image offsets : List ℕ) (k u : ℕ) (kept : List ℕ) : Type 0 where
-  pub memory : length kept ≡ 48960
+pub record KeepingStations (image offsets : List ℕ) (k u : ℕ) (kept : List MoveRecord) : Type 0 where
+  pub memory : length kept ≡ 12240
   pub pages : length offsets ≡ 256
   pub came : u ≤ station_count image
   pub reached : (p : ℕ) → p < page_count image → Reached image p u (get_or offsets p 0) []
   pub counted : k ≡ length (records_from image u 0)
-  pub records : kept_from kept k 0 ≡ records_from image u 0
+  pub records : take k kept ≡ records_from image u 0
 
 module _ (image : List ℕ) (whole : whole_check image ≡ accepted) where
   pub well-formed : Formed image
   well-formed = formed image (wholly image whole).heading
 
-  pub stations_begin : Bytes image → (kept : List ℕ) → length kept ≡ 48960
+  pub stations_begin : Bytes image → (kept : List MoveRecord) → length kept ≡ 12240
       → KeepingStations image (replicate 256 0) 0 0 kept
-  unfolding records_from kept_from
+  unfolding records_from
   stations_begin bytes kept memory = record {
     memory = memory;
     pages = refl;
@@ -42,7 +42,7 @@ module _ (image : List ℕ) (whole : whole_check image ≡ accepted) where
     records = refl;
   }
 
-  module _ (offsets : List ℕ) (k u : ℕ) (kept : List ℕ) (keeping : KeepingStations image offsets k u kept)
+  module _ (offsets : List ℕ) (k u : ℕ) (kept : List MoveRecord) (keeping : KeepingStations image offsets k u kept)
       (due : u < length (directory_of image)) where
     abbrev page : ℕ
     page = get_or (directory_of image) u 0
@@ -62,7 +62,7 @@ module _ (image : List ℕ) (whole : whole_check image ≡ accepted) where
           keeping.counted,
         )
 
-    pub station_next : {at count : ℕ} {after : List ℕ} → StationKept image page u k kept at count after
+    pub station_next : {at count : ℕ} {after : List MoveRecord} → StationKept image page u k kept at count after
         → KeepingStations image (set offsets page at) count (u + 1) after
     station_next {at} s = record {
       memory = s.memory ∙ keeping.memory;
@@ -83,9 +83,9 @@ module _ (image : List ℕ) (whole : whole_check image ≡ accepted) where
     }
 
   -- All stations came.
-  pub stations_end : (offsets : List ℕ) (k u : ℕ) (kept : List ℕ) → KeepingStations image offsets k u kept
+  pub stations_end : (offsets : List ℕ) (k u : ℕ) (kept : List MoveRecord) → KeepingStations image offsets k u kept
       → length (directory_of image) ≤ u
-      → (k ≡ length (records_of image)) × (kept_from kept k 0 ≡ records_of image)
+      → (k ≡ length (records_of image)) × (take k kept ≡ records_of image)
   stations_end offsets k u kept keeping past =
       let all : u ≡ station_count image = omega (arith, well-formed.directory, keeping.came) in
       rw (← all) (keeping.counted, keeping.records)

@@ -1,32 +1,22 @@
 // The text of the naming call's answer: `first less`, `second less` or `equal`, or which image is refused, with the
 // refusal's number and the place that it names.
 
-use cases_io::{STDOUT_FILENO, print_refusal};
-use image::Refusal;
+use cases_io::Told;
 use order::OrderRefusal;
 use std::cmp::Ordering;
+use std::fmt;
 
-fn print_words(words: &[u8]) {
-    io::write_all(STDOUT_FILENO, words);
-}
+#[derive(Clone, Copy)]
+pub struct Answered(pub Result<Ordering, OrderRefusal>);
 
-fn print_order(order: Ordering) {
-    match order {
-        Ordering::Less => print_words(b"first less"),
-        Ordering::Equal => print_words(b"equal"),
-        Ordering::Greater => print_words(b"second less"),
-    }
-}
-
-fn print_refused(which: &[u8], refusal: Refusal) {
-    print_words(which);
-    print_refusal(refusal);
-}
-
-pub fn print_answer(answer: Result<Ordering, OrderRefusal>) {
-    match answer {
-        Ok(order) => print_order(order),
-        Err(OrderRefusal::First(refusal)) => print_refused(b"first ", refusal),
-        Err(OrderRefusal::Second(refusal)) => print_refused(b"second ", refusal),
+impl fmt::Display for Answered {
+    fn fmt<W: fmt::Write>(&self, f: &mut fmt::Formatter<W>) -> fmt::Result {
+        match self.0 {
+            Ok(Ordering::Less) => write!(f, "first less"),
+            Ok(Ordering::Equal) => write!(f, "equal"),
+            Ok(Ordering::Greater) => write!(f, "second less"),
+            Err(OrderRefusal::First(refusal)) => write!(f, "first {}", Told(refusal)),
+            Err(OrderRefusal::Second(refusal)) => write!(f, "second {}", Told(refusal)),
+        }
     }
 }

@@ -11,70 +11,33 @@
 
 mod answers;
 
-use answers::print_answer;
-use cases_io::{
-    Map, STDIN_FILENO, STDOUT_FILENO, after_call, change_bytes, long_at, print_number, read_map,
-};
-use image::bytes::part_of;
+use answers::Answered;
+use cases_io::{Part, change_bytes, run_cases};
+use image::bytes::byte_at;
 use order::{compare, lesser};
-use tables_io::print_bytes;
+use std::io;
+use tables_io::Table;
 
 // The most bytes of a case: those of three full maps.
 const BYTES: usize = 200000;
 
-// Prints where an image stands among the bytes of its case.
-fn print_place(before: &[u8], from: u32, count: u32) {
-    print_number(before, count as u64);
-    print_number(b" bytes at ", from as u64);
-}
-
 // Prints what both calls give for two images.
-fn print_order<'a>(first: &'a [u8], second: &'a [u8]) {
-    io::write_all(STDOUT_FILENO, b": ");
-    print_answer(compare(first, second));
-    print_bytes(b", handed back", lesser(first, second));
-}
-
-// Prints the line of a call, its changes made.
-fn print_call(bytes: &[u8], call: &[u8]) {
-    let from = long_at(call, 0);
-    let count = long_at(call, 4);
-    let second_from = long_at(call, 8);
-    let second_count = long_at(call, 12);
-    print_place(b" ", from, count);
-    print_place(b", ", second_from, second_count);
-    print_order(
-        part_of(bytes, from as usize, count as usize),
-        part_of(bytes, second_from as usize, second_count as usize),
-    );
+fn print_order<R: Print>(rt: &R, first: &[u8], second: &[u8]) -> io::Result<()> {
+    print!(rt; ": {}", Answered(compare(first, second)))?;
+    println!(rt; ", handed back{}", Table(lesser(first, second)))
 }
 
 // Makes the changes of a call and prints its line.
-fn answer_call(bytes: &mut [u8], call: &[u8; 17]) {
-    change_bytes(bytes, call[16]);
-    print_call(bytes, call);
+fn answer_call<R: Input + Print>(rt: &R, bytes: &mut [u8], call: &[u8]) -> io::Result<()> {
+    change_bytes(rt, bytes, byte_at(call, 16))?;
+    let first = Part::named(call, 0);
+    let second = Part::named(call, 8);
+    print!(rt; " {} bytes at {}", first.count, first.from)?;
+    print!(rt; ", {} bytes at {}", second.count, second.from)?;
+    print_order(rt, first.of(bytes), second.of(bytes))
 }
 
-// Reads a call of the case at hand and answers it, and says what is at hand then.
-fn run_call(space: &mut [u8], map: Map) -> Map {
-    let mut call = [0u8; 17];
-    io::read_full(STDIN_FILENO, &mut call);
-    let n = io::count(map.size as isize, space);
-    answer_call(&mut space[..n], &call);
-    after_call(space, map)
-}
-
-// A proved loop has to end, so it counts its turns down from a number that no run uses up.
-fn run_calls(space: &mut [u8]) {
-    let mut map = read_map(space);
-    let mut turns = u64::MAX;
-    while turns > 0 && map.calls > 0 {
-        map = run_call(space, map);
-        turns -= 1;
-    }
-}
-
-fn main() {
+fn main(rt: HostRuntime) -> io::Result<()> {
     let mut space = [0u8; BYTES];
-    run_calls(&mut space);
+    run_cases::<_, 17, _>(&rt, &mut space, |bytes, call| answer_call(&rt, bytes, call))
 }

@@ -3,49 +3,61 @@
 //
 // The input is a row of maps, as the crate cases_io reads them. A call is the source, the strip's length, the first
 // station and the number of stations (four u16), the number of changes (u8), and the changes. It asks for one station
-// after the other and prints one line.
+// after the other and prints one line, ` from 0, strip 8120, stations 0 to 8: 0 4 3 6 2 8 9 -106*2, digest 3848850866`.
+// The digest is of the bits of every float, so that another one shows even where it is printed alike.
 
 #![tactic(auto)]
 
-mod floats;
-mod line;
+use cases_io::{BYTES, change_bytes, run_cases};
+use image::bytes::{byte_at, word_at};
+use std::io;
+use std::num::f64_to_bits_with_nan;
+use tables_io::{Runs, mixed};
+use yard::yard_panel;
 
-use cases_io::{BYTES, Map, STDIN_FILENO, after_call, change_bytes, read_map};
-use image::bytes::word_at;
-use line::print_line;
+// Room for the most stations of a call, and one more.
+const STATIONS: usize = 65536;
 
-// Makes the changes of a call and prints its line.
-fn answer_call(image: &mut [u8], call: &[u8; 9]) {
-    change_bytes(image, call[8]);
-    print_line(
-        image,
-        word_at(call, 0),
-        word_at(call, 2),
-        word_at(call, 4),
-        word_at(call, 6),
-    );
+// The digest with the bits of a float.
+fn with_float(digest: u64, float: f64) -> u64 {
+    let bits = f64_to_bits_with_nan(float);
+    mixed(
+        mixed(digest, (bits / 0x1_0000_0000) as u32),
+        (bits % 0x1_0000_0000) as u32,
+    )
 }
 
-// Reads a call of the map at hand and answers it, and says what is at hand then.
-fn run_call(space: &mut [u8], map: Map) -> Map {
-    let mut call = [0u8; 9];
-    io::read_full(STDIN_FILENO, &mut call);
-    let n = io::count(map.size as isize, space);
-    answer_call(&mut space[..n], &call);
-    after_call(space, map)
-}
-
-// A proved loop has to end, so it counts its turns down from a number that no run uses up.
-fn run_calls(space: &mut [u8]) {
-    let mut map = read_map(space);
-    let mut turns = u64::MAX;
-    while turns > 0 && map.calls > 0 {
-        map = run_call(space, map);
-        turns -= 1;
+// Asks for so many stations from the first one on.
+fn ask(image: &[u8], source: u16, strip: u16, first: u16, number: u16, floats: &mut [f64]) {
+    for (i, float) in (0..number).zip(floats.iter_mut()) {
+        *float = yard_panel(image, source, strip, first.wrapping_add(i));
     }
 }
 
-fn main() {
+// Asks for the stations of a call in turn and prints its line.
+fn print_line<R: Print>(rt: &R, image: &[u8], call: &[u8]) -> io::Result<()> {
+    let source = word_at(call, 0);
+    let strip = word_at(call, 2);
+    let first = word_at(call, 4);
+    let number = word_at(call, 6);
+    let last = (u64::from(first) + u64::from(number)).wrapping_sub(1);
+    let mut floats = [0.0; STATIONS];
+    ask(image, source, strip, first, number, &mut floats);
+    let floats = &floats[..usize::from(number)];
+    let digest = floats
+        .iter()
+        .fold(0, |digest, float| with_float(digest, *float));
+    print!(rt; " from {source}, strip {strip}, stations {first} to {last}:")?;
+    println!(rt; "{}, digest {digest}", Runs(floats))
+}
+
+// Makes the changes of a call and prints its line.
+fn answer_call<R: Input + Print>(rt: &R, image: &mut [u8], call: &[u8]) -> io::Result<()> {
+    change_bytes(rt, image, byte_at(call, 8))?;
+    print_line(rt, image, call)
+}
+
+fn main(rt: HostRuntime) -> io::Result<()> {
     let mut space = [0u8; BYTES];
-    run_calls(&mut space);
+    run_cases::<_, 9, _>(&rt, &mut space, |image, call| answer_call(&rt, image, call))
 }

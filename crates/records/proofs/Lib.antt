@@ -1,4 +1,4 @@
--- The laws behind the loops: one record more that is filled or taken, and what a reading that was filled in promises.
+-- The laws behind the loops: one record more that is put or taken, and what a reading that was filled in promises.
 
 pub mod Steps
 pub mod Filling

@@ -1,46 +1,45 @@
--- One record more that is filled in or taken: the definitions, step by step from the front, as the loops go.
-use Rattle.common.proofs.Ground.{◌∙◌, ◌≡◌, ap, refl, sym}
-use Rattle.common.proofs.Ground.{List, [], ◌∷◌, ◌+◌, ◌<◌, suc, zero, ℕ, add-suc, not-suc-le-zero, suc-add, zero-add}
-use Rattle.common.proofs.Ground.{add-zero, get_or, set, take, take-length, length}
-use native.Mathlib.Nat.{le_of_suc-le-suc}
+-- One record more that is put or taken, step by step from the front, as the loops go.
+use Rattle.common.proofs.Ground.{◌∙◌, ◌≡◌, ap, refl, sym, arith}
+use Rattle.common.proofs.Ground.{List, [], ◌∷◌, ◌++◌, ◌+◌, ◌<◌, ◌≤◌, suc, zero, ℕ, add-one, add-suc, suc-add, zero-add}
+use Rattle.common.proofs.Ground.{add-zero, get_or, set, take, drop, take-suc, drop-cons, set_at, append_assoc, length-take-le, length}
 use Rattle.move_record.specs.declared.MoveRecord.{MoveRecord}
 use Rattle.move_record.specs.Records.{no_record}
-use Rattle.move_record.specs.Kept.{kept_record}
-use Rattle.writing.specs.Taking.{Taking, take_of, taken}
-use Rattle.records.specs.Filled.{filled}
+use Rattle.writing.specs.declared.taking.Memory.{Memory}
+use Rattle.writing.specs.Taking.{take_of, taken}
 
-pub filled_none : (kept : List ℕ) (list : List MoveRecord) → filled kept 0 list ≡ list
-unfolding filled
-filled_none kept list = refl
+-- The first records put at a list's front, and one more.
+pub fill_next : (records list : List MoveRecord) (i : ℕ) → i < length records → length records ≤ length list
+    → set (take i records ++ drop i list) i (get_or records i no_record)
+    ≡ take (i + 1) records ++ drop (i + 1) list
+fill_next records list i inside room =
+    let front = take i records in
+    let r = get_or records i no_record in
+    ap (λ l. set (front ++ l) i r) (drop-cons list i no_record (omega arith)) ∙
+    set_at front _ (drop (suc i) list) r i (length-take-le i records (omega arith)) ∙
+    sym (append_assoc front (r ∷ []) (drop (suc i) list)) ∙
+    ap (λ l. l ++ drop (suc i) list) (sym (take-suc records i no_record inside)) ∙
+    rw (add-one i)
 
-pub filled_next : (kept : List ℕ) (count : ℕ) (list : List MoveRecord)
-    → filled kept (suc count) list ≡ set (filled kept count list) count (kept_record kept count)
-unfolding filled
-filled_next kept count list = refl
-
-pub taken_none : (size : ℕ) (t : Taking) (records : List MoveRecord) → taken size t 0 (take 0 records) ≡ t
+pub taken_none : (size : ℕ) (m : Memory) (records : List MoveRecord) → taken size m 0 (take 0 records) ≡ m
 unfolding taken
-taken_none size t records = refl
+taken_none size m records = refl
 
 -- The records from the front, the first at index k.
-taken_from : (size : ℕ) (t : Taking) (k : ℕ) (records : List MoveRecord) (i : ℕ) → i < length records
-    → taken size t k (take (suc i) records)
-    ≡ take_of size (taken size t k (take i records)) (i + k) (get_or records i no_record)
+taken_from : (size : ℕ) (m : Memory) (k : ℕ) (records : List MoveRecord) (i : ℕ) → i < length records
+    → taken size m k (take (suc i) records)
+    ≡ take_of size (taken size m k (take i records)) (i + k) (get_or records i no_record)
 unfolding taken
-taken_from size t k [] i inside = absurd (not-suc-le-zero inside)
-taken_from size t k (r ∷ rs) zero inside = ap (λ (j : ℕ). take_of size t j r) (sym (zero-add k))
-taken_from size t k (r ∷ rs) (suc i) inside =
-    let t' = take_of size t k r in
-    taken_from size t' (suc k) rs i (le_of_suc-le-suc inside)
-    ∙ ap (λ (j : ℕ). take_of size (taken size t' (suc k) (take i rs)) j (get_or rs i no_record))
+taken_from size m k [] i inside = absurd (omega arith)
+taken_from size m k (r ∷ rs) zero inside = ap (λ (j : ℕ). take_of size m j r) (sym (zero-add k))
+taken_from size m k (r ∷ rs) (suc i) inside =
+    let next = take_of size m k r in
+    taken_from size next (suc k) rs i (omega arith)
+    ∙ ap (λ (j : ℕ). take_of size (taken size next (suc k) (take i rs)) j (get_or rs i no_record))
     (add-suc i k ∙ sym (suc-add i k))
 
-pub taken_next : (size : ℕ) (t : Taking) (records : List MoveRecord) (i : ℕ) → i < length records
-    → taken size t 0 (take (suc i) records) ≡ take_of size (taken size t 0 (take i records)) i (get_or records i no_record)
-taken_next size t records i inside =
-    taken_from size t 0 records i inside
-    ∙ ap (λ (j : ℕ). take_of size (taken size t 0 (take i records)) j (get_or records i no_record)) (add-zero i)
-
-pub taken_all_lem : (size : ℕ) (t : Taking) (records : List MoveRecord)
-    → taken size t 0 (take (length records) records) ≡ taken size t 0 records
-taken_all_lem size t records = ap (taken size t 0) (take-length records)
+pub taken_next : (size : ℕ) (m : Memory) (records : List MoveRecord) (i : ℕ) → i < length records
+    → taken size m 0 (take (i + 1) records) ≡ take_of size (taken size m 0 (take i records)) i (get_or records i no_record)
+taken_next size m records i inside =
+    ap (λ n. taken size m 0 (take n records)) (add-one i) ∙
+    taken_from size m 0 records i inside
+    ∙ ap (λ (j : ℕ). take_of size (taken size m 0 (take i records)) j (get_or records i no_record)) (add-zero i)

@@ -4,12 +4,9 @@
 // tests/make_route_cases.py writes the cases and, by rules of its own, the text that this program must print.
 #![tactic(auto)]
 
+use cases_io::{read, read_array};
 use route::RouteRefusal;
-
-// The numbers of standard input and standard output.
-const STDIN_FILENO: i32 = 0;
-
-const STDOUT_FILENO: i32 = 1;
+use std::io;
 
 // What stands in the output before a call: no station of any case.
 const CANARY: u16 = 43690;
@@ -17,106 +14,58 @@ const CANARY: u16 = 43690;
 // A table's or an output's greatest length in a case.
 const SPACE: usize = 4096;
 
-fn word(low: u8, high: u8) -> u16 {
-    low as u16 + 256 * (high as u16)
-}
-
 // The next number of the input; past its end 0, which the printed line then shows.
-fn read_number() -> u16 {
-    let mut bytes = [0u8; 2];
-    io::read_full(STDIN_FILENO, &mut bytes);
-    word(bytes[0], bytes[1])
+fn read_number<R: Input>(rt: &R) -> u16 {
+    u16::from_le_bytes(read_array(rt))
 }
 
-fn read_numbers(table: &mut [u16]) {
-    let mut i: usize = 0;
-    while i < table.len() {
-        table[i] = read_number();
-        i += 1;
-    }
-}
-
-fn fill(out: &mut [u16]) {
-    let mut i: usize = 0;
-    while i < out.len() {
-        out[i] = CANARY;
-        i += 1;
-    }
-}
-
-fn print_number(before: &[u8], number: u64) {
-    io::write_all(STDOUT_FILENO, before);
-    io::print_decimal(STDOUT_FILENO, number);
-}
-
-fn print_answer(answer: Result<Option<usize>, RouteRefusal>) {
+fn print_answer<R: Print>(rt: &R, answer: Result<Option<usize>, RouteRefusal>) -> io::Result<()> {
     match answer {
-        Ok(Some(count)) => print_number(b"found ", count as u64),
-        Ok(None) => {
-            io::write_all(STDOUT_FILENO, b"no route");
-        }
-        Err(refusal) => print_number(b"refused ", refusal.number() as u64),
+        Ok(Some(count)) => print!(rt; "found {count}"),
+        Ok(None) => print!(rt; "no route"),
+        Err(refusal) => print!(rt; "refused {}", refusal.number()),
     }
 }
 
-fn print_entry(entry: u16) {
-    print_number(b" ", entry as u64);
-}
-
-fn print_output(out: &[u16]) {
-    io::write_all(STDOUT_FILENO, b":");
-    let mut i: usize = 0;
-    while i < out.len() {
-        print_entry(out[i]);
-        i += 1;
+fn run_call<R: Print>(rt: &R, preds: &[u16], station: u16, out: &mut [u16]) -> io::Result<()> {
+    out.fill(CANARY);
+    print_answer(rt, route::route(preds, station, out))?;
+    print!(rt; ":")?;
+    for entry in out.iter() {
+        print!(rt; " {entry}")?;
     }
-    io::write_all(STDOUT_FILENO, b"\n");
+    println!(rt; "")
 }
 
-fn run_call(preds: &[u16], station: u16, out: &mut [u16]) {
-    fill(out);
-    print_answer(route::route(preds, station, out));
-    print_output(out);
-}
-
-// Reads the rest of a case, whose table has the length of `preds`, and prints its line.
-fn run_table(preds: &mut [u16], space: &mut [u16]) {
-    read_numbers(preds);
-    let station = read_number();
-    let room = read_number() as usize;
-    if space.len() < room {
-        io::write_all(STDOUT_FILENO, b"no space\n");
-        return;
+// Runs one case, and says whether to go on.
+fn run_case<R: Input + Print>(rt: &R, table: &mut [u16], space: &mut [u16]) -> io::Result<bool> {
+    let mut head = [0u8; 2];
+    if read(rt, &mut head) < 2 {
+        return Ok(false);
     }
-    run_call(preds, station, &mut space[..room]);
+    let Some(preds) = table.get_mut(..usize::from(u16::from_le_bytes(head))) else {
+        println!(rt; "no space")?;
+        return Ok(false);
+    };
+    for pred in preds.iter_mut() {
+        *pred = read_number(rt);
+    }
+    let station = read_number(rt);
+    let room = read_number(rt);
+    match space.get_mut(..usize::from(room)) {
+        Some(out) => run_call(rt, preds, station, out)?,
+        None => println!(rt; "no space")?,
+    }
+    Ok(true)
 }
 
-// Runs one case, and says whether there was one.
-fn run_case(table: &mut [u16], space: &mut [u16]) -> bool {
-    let mut bytes = [0u8; 2];
-    let got = io::read_full(STDIN_FILENO, &mut bytes);
-    if got < 2 {
-        return false;
-    }
-    let n = word(bytes[0], bytes[1]) as usize;
-    if table.len() < n {
-        io::write_all(STDOUT_FILENO, b"no space\n");
-        return false;
-    }
-    run_table(&mut table[..n], space);
-    true
-}
-
-// A proved loop has to end, so it counts its turns down from a number that no run uses up.
-fn run_cases(table: &mut [u16], space: &mut [u16]) {
-    let mut turns = u64::MAX;
-    while turns > 0 && run_case(table, space) {
-        turns -= 1;
-    }
-}
-
-fn main() {
+fn main(rt: HostRuntime) -> io::Result<()> {
     let mut table = [0u16; SPACE];
     let mut space = [0u16; SPACE];
-    run_cases(&mut table, &mut space);
+    for _ in 0..u64::MAX {
+        if !run_case(&rt, &mut table, &mut space)? {
+            break;
+        }
+    }
+    Ok(())
 }

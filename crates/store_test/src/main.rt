@@ -8,12 +8,9 @@
 
 #![tactic(auto)]
 
-ghost use Rattle.std.specs.Prelude.{◌≤◌, length};
-
-use cases_io::{
-    Map, STDIN_FILENO, STDOUT_FILENO, after_call, change_bytes, long_at, print_number, read_map,
-};
-use image::bytes::part_of;
+use cases_io::{Part, bytes_at, change_bytes, run_cases};
+use image::bytes::{byte_at, part_of};
+use std::io;
 use store::{ReplayRefusal, replay};
 
 // The most bytes of a case: those of a full table, of 57,600 entries, and of lists of 79,600 entries together.
@@ -22,111 +19,48 @@ const BYTES: usize = 310000;
 // The longest table of a call.
 const ENTRIES: usize = 66000;
 
-// A length that is asked for, as far as there is room.
-fn within(asked: usize) -> usize
-    ensures fits { result ≤ 66000 }
-{
-    if asked < ENTRIES {
-        return asked;
-    }
-    ENTRIES
-}
-
-// A number of 64 bits by its halves.
-fn joined(low: u32, high: u32) -> usize {
-    low as usize + 4294967296 * (high as usize)
-}
-
-fn pages_of(call: &[u8]) -> usize {
-    joined(long_at(call, 16), long_at(call, 20))
-}
-
-fn frames_of(call: &[u8]) -> usize {
-    joined(long_at(call, 24), long_at(call, 28))
-}
-
-// Prints the length of a list or a table, and where it begins among the bytes of the case.
-fn print_place(before: &[u8], from: u32, count: u32) {
-    print_number(before, count as u64);
-    print_number(b" at ", from as u64);
-}
-
-fn print_call(call: &[u8]) {
-    print_place(b" list ", long_at(call, 0), long_at(call, 4));
-    print_place(b", table ", long_at(call, 8), long_at(call, 12));
-    print_number(b", P ", pages_of(call) as u64);
-    print_number(b", F ", frames_of(call) as u64);
-    print_number(b", D ", long_at(call, 32) as u64);
-}
-
-fn print_answer(answer: Result<usize, ReplayRefusal>) {
-    match answer {
-        Ok(count) => print_number(b": reads ", count as u64),
-        Err(refusal) => print_number(b": refused ", refusal.number() as u64),
-    }
-    io::write_all(STDOUT_FILENO, b"\n");
-}
-
-// Copies the entries that begin at an offset to a table of their number.
-fn read_table(bytes: &[u8], at: u32, table: &mut [u32])
-    requires short { length table.old ≤ 66000 }
-{
-    let mut i: usize = 0;
-    while i < table.len() {
-        table[i] = long_at(part_of(bytes, at as usize + 4 * i, 4), 0);
-        i += 1;
+// Copies the entries that begin at an offset to a table of their number, as far as the bytes reach.
+fn read_table(bytes: &[u8], at: u32, table: &mut [u32]) {
+    let words = part_of(bytes, at as usize, bytes.len()).chunks(4);
+    for (entry, word) in table.iter_mut().zip(words) {
+        *entry = u32::from_le_bytes(bytes_at(word, 0));
     }
 }
 
-// Replays the list of a call with its distances in a table of their number.
-fn run_replay(bytes: &[u8], call: &[u8], table: &mut [u32])
-    requires short { length table.old ≤ 66000 }
-{
-    read_table(bytes, long_at(call, 8), table);
-    let list = part_of(bytes, long_at(call, 0) as usize, long_at(call, 4) as usize);
-    let answer = replay(
-        list,
-        pages_of(call),
-        frames_of(call),
-        table,
-        long_at(call, 32),
-    );
-    print_answer(answer);
-}
-
-fn run(bytes: &[u8], call: &[u8]) {
+// Prints a call and replays its list with its distances in a table of their number.
+fn print_call<R: Print>(rt: &R, bytes: &[u8], call: &[u8]) -> io::Result<()> {
+    let list = Part::named(call, 0);
+    let distances = Part::named(call, 8);
+    let pages = u64::from_le_bytes(bytes_at(call, 16));
+    let frames = u64::from_le_bytes(bytes_at(call, 24));
+    let threshold = u32::from_le_bytes(bytes_at(call, 32));
+    print!(rt; " list {} at {}", list.count, list.from)?;
+    print!(rt; ", table {} at {}", distances.count, distances.from)?;
+    print!(rt; ", P {pages}, F {frames}, D {threshold}: ")?;
     let mut table = [0u32; ENTRIES];
-    let n = within(long_at(call, 12) as usize);
-    run_replay(bytes, call, &mut table[..n]);
+    let table = &mut table[..(distances.count as usize).min(ENTRIES)];
+    read_table(bytes, distances.from, table);
+    let list = list.of(bytes);
+    print_answer(
+        rt,
+        replay(list, pages as usize, frames as usize, table, threshold),
+    )
+}
+
+fn print_answer<R: Print>(rt: &R, answer: Result<usize, ReplayRefusal>) -> io::Result<()> {
+    match answer {
+        Ok(count) => println!(rt; "reads {count}"),
+        Err(refusal) => println!(rt; "refused {}", refusal.number()),
+    }
 }
 
 // Makes the changes of a call and prints its line.
-fn answer_call(bytes: &mut [u8], call: &[u8; 37]) {
-    change_bytes(bytes, call[36]);
-    print_call(call);
-    run(bytes, call);
+fn answer_call<R: Input + Print>(rt: &R, bytes: &mut [u8], call: &[u8]) -> io::Result<()> {
+    change_bytes(rt, bytes, byte_at(call, 36))?;
+    print_call(rt, bytes, call)
 }
 
-// Reads a call of the case at hand and answers it, and says what is at hand then.
-fn run_call(space: &mut [u8], map: Map) -> Map {
-    let mut call = [0u8; 37];
-    io::read_full(STDIN_FILENO, &mut call);
-    let n = io::count(map.size as isize, space);
-    answer_call(&mut space[..n], &call);
-    after_call(space, map)
-}
-
-// A proved loop has to end, so it counts its turns down from a number that no run uses up.
-fn run_calls(space: &mut [u8]) {
-    let mut map = read_map(space);
-    let mut turns = u64::MAX;
-    while turns > 0 && map.calls > 0 {
-        map = run_call(space, map);
-        turns -= 1;
-    }
-}
-
-fn main() {
+fn main(rt: HostRuntime) -> io::Result<()> {
     let mut space = [0u8; BYTES];
-    run_calls(&mut space);
+    run_cases::<_, 37, _>(&rt, &mut space, |bytes, call| answer_call(&rt, bytes, call))
 }

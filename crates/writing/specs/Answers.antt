@@ -1,11 +1,12 @@
 -- What the writer's answer says in the papers' numbers and values.
-use Rattle.image.specs.Image.{accepted, refused, place_of}
+use Rattle.std.specs.Prelude.{Result, Ok, Err}
+use Rattle.image.specs.Image.{accepted, refused, number_of, place_of}
 use Rattle.roundtrip.specs.Written.{WriteOutcome, said, refused_record, refused_page}
-use Rattle.writing.specs.declared.WriteAnswer.{WriteAnswer}
-use Rattle.writing.specs.declared.WriteAnswer.TheVariants.{Written, Refused, BadRecord, FullPage}
+use Rattle.writing.specs.declared.WriteRefusal.{WriteRefusal}
+use Rattle.writing.specs.declared.WriteRefusal.TheVariants.{Shape, Record, Page}
 
-abbrev pub outcome_of_write : WriteAnswer → WriteOutcome
-outcome_of_write Written = said accepted
-outcome_of_write (Refused refusal) = said (refused refusal.number (place_of refusal.place))
-outcome_of_write (BadRecord index) = refused_record 19 index
-outcome_of_write (FullPage p) = refused_page 20 p
+abbrev pub outcome_of_write : Result Unit WriteRefusal → WriteOutcome
+outcome_of_write (Ok done) = said accepted
+outcome_of_write (Err (Shape refusal)) = said (refused (number_of refusal) (place_of refusal))
+outcome_of_write (Err (Record index)) = refused_record 19 index
+outcome_of_write (Err (Page p)) = refused_page 20 p

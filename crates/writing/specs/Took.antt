@@ -1,13 +1,17 @@
 -- What the writer's memory comes from: so many records of a list were taken into it. For the code: nothing that is
 -- promised speaks of it.
-use Rattle.std.specs.Prelude.{◌≡◌, List, ℕ, ◌<◌, length}
+use Rattle.std.specs.Prelude.{◌≡◌, List, ℕ, ◌<◌, length, get_or}
 use Rattle.move_record.specs.declared.MoveRecord.{MoveRecord}
-use Rattle.writing.specs.Taking.{taking, taken_all}
+use Rattle.move_record.specs.Records.{no_record}
+use Rattle.writing.specs.declared.taking.Memory.{Memory}
+use Rattle.writing.specs.Taking.{taken_all}
 
--- The list of so many records, of which `count` were taken into this memory; and that memory and count are in bounds.
-pub record Took (kept : List ℕ) (count records size : ℕ) : Type 0 where
+-- The list of so many records, of which those that were taken are in this memory; and what is known of its numbers, and
+-- of how many were taken.
+pub record Took (memory : Memory) (records size : ℕ) : Type 0 where
   pub list : List MoveRecord
   pub all : length list ≡ records
-  pub taken : taking kept count ≡ taken_all size list
-  pub memory : length kept ≡ 51010
-  pub few : count < 4294967296
+  pub taken : memory ≡ taken_all size list
+  pub fits : (k : ℕ) → k < length list
+      → ((get_or list k no_record).time < 65536) × ((get_or list k no_record).limit < 65536)
+  pub few : memory.count < 4294967296

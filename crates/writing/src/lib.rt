@@ -1,5 +1,5 @@
-// The writer's work on plain numbers (02, C-16): a record taken into memory (taking.rt), the bytes that the pages need
-// (pages.rt), and the image written of what was taken. No list of records is seen here.
+// The writer's work (02, C-16): a record taken into memory (taking.rt), the bytes that the pages need (pages.rt), and the
+// image written of what was taken. No lent list of records is seen here.
 
 #![tactic(auto)]
 
@@ -9,78 +9,81 @@ ghost use Rattle.move_record.specs.declared.MoveRecord.{MoveRecord};
 ghost use Rattle.roundtrip.specs.Written.{writing, shape_check};
 ghost use Rattle.roundtrip.specs.Promises.{WritePromised};
 ghost use Rattle.writing.specs.Answers.{outcome_of_write};
-ghost use Rattle.writing.specs.Taking.{taking, taken_all};
+ghost use Rattle.writing.specs.Taking.{taken_all};
 ghost use Rattle.writing.specs.Took.{Took};
+ghost use Rattle.writing.specs.declared.WriteRefusal.TheVariants.{Shape};
 
 pub mod pages;
 pub mod taking;
 
-use image::{Checked, Place, Refusal, first_not_below, outside, refuse};
+use image::{Refusal, first_not_below, outside};
 use imaging::write_image;
 use pages::first_full;
+use taking::Memory;
 
-// What the writer answers: written; or refused by 2 to 5, by 19 with the index of the first record at fault, or by 20
-// with the lowest page that needs more than 256 bytes.
-#[derive(Clone, Copy)]
-pub enum WriteAnswer {
-    Written,
-    Refused(Refusal),
-    BadRecord(u32),
-    FullPage(u8),
+// What the writer refuses: 2 to 5; 19, with the index of the first record at fault; or 20, with the lowest page that
+// needs more than 256 bytes.
+#[derive(Clone, Copy, Debug, PartialEq, Eq)]
+pub enum WriteRefusal {
+    Shape(Refusal),
+    Record(u32),
+    Page(u8),
+}
+
+impl From<Refusal> for WriteRefusal {
+    ghost from_gives = { λ refusal e. e ≡ Shape refusal };
+
+    fn from(refusal: Refusal) -> WriteRefusal {
+        WriteRefusal::Shape(refusal)
+    }
 }
 
 // Refusals 2 to 5 of the writer, in this order; `room` is the buffer's length.
-fn check_shape(size: usize, pages: usize, directory: &[u8], room: usize) -> Checked
+fn check_shape(size: usize, pages: usize, directory: &[u8], room: usize) -> Result<(), Refusal>
     requires counts { (size < 65536) × (pages < 65536) }
     ensures outcome { outcome_of result ≡ shape_check size pages directory.now room }
 {
     if outside(size, 2048) {
-        return refuse(2, Place::Nowhere);
+        return Err(Refusal::StationCount);
     }
     if outside(pages, 240) {
-        return refuse(3, Place::Nowhere);
+        return Err(Refusal::PageCount);
     }
-    if room != 4 + size + 256 * pages {
-        return refuse(4, Place::Nowhere);
-    }
-    if directory.len() != size {
-        return refuse(4, Place::Nowhere);
+    if room != 4 + size + 256 * pages || directory.len() != size {
+        return Err(Refusal::ImageLength);
     }
     let station = first_not_below(directory, pages);
     if station < size {
-        return refuse(5, Place::AtStation(station as u16));
+        return Err(Refusal::Directory {
+            station: station as u16,
+        });
     }
-    Checked::Whole
+    Ok(())
 }
 
 // The image of the records that were taken, of which there were so many in all: 2 to 5, then 19 if not all were taken,
 // then 20, and only then is the buffer written.
 pub fn finish(
-    kept: &[u16],
-    count: usize,
+    memory: &Memory,
     records: usize,
     size: u16,
     pages: u16,
     directory: &[u8],
     image: &mut [u8],
-) -> WriteAnswer
-    requires taken { Took kept.now count records size }
+) -> Result<(), WriteRefusal>
+    requires taken { Took memory.now records size }
     ensures promised { (list : List MoveRecord) → length list ≡ records
-        → taking kept.now count ≡ taken_all size list
+        → memory.now ≡ taken_all size list
         → WritePromised size pages directory.now list image.old
         (writing (outcome_of_write result) image.new) }
 {
-    match check_shape(size as usize, pages as usize, directory, image.len()) {
-        Checked::Refused(refusal) => return WriteAnswer::Refused(refusal),
-        Checked::Whole => {}
+    check_shape(size as usize, pages as usize, directory, image.len())?;
+    if memory.count < records {
+        return Err(WriteRefusal::Record(memory.count as u32));
     }
-    if count < records {
-        return WriteAnswer::BadRecord(count as u32);
+    if let Some(page) = first_full(&memory.bytes, directory, pages as usize) {
+        return Err(WriteRefusal::Page(page as u8));
     }
-    let page = first_full(kept, directory, pages as usize);
-    if page < pages as usize {
-        return WriteAnswer::FullPage(page as u8);
-    }
-    write_image(kept, count, size, pages, directory, image);
-    WriteAnswer::Written
+    write_image(memory.taken(), size, pages, directory, image);
+    Ok(())
 }

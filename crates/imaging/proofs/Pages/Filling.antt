@@ -3,13 +3,12 @@
 use Rattle.common.proofs.Ground.{◌≡◌, ◌≢◌, ap, sym, ◌∙◌, dite, List, ◌++◌, ℕ, suc, ◌+◌, ◌-◌, ◌*◌, ◌/◌, ◌<◌, ◌≤◌, arith}
 use Rattle.common.proofs.Ground.{ℕ_discrete, add-one, zero-add, length, get_or, take, set, replicate, length-set, dec_lt}
 use Rattle.common.proofs.Ground.{get_or-eq_default, length-replicate, get_or-replicate, get_or-set_same, get_or-set_other}
-use Rattle.common.proofs.Ground.{length-append, take-length}
+use Rattle.common.proofs.Ground.{length-append, take-length, drop}
 use Rattle.common.specs.Window.{placed}
 use Rattle.move_record.specs.declared.MoveRecord.{MoveRecord}
-use Rattle.move_record.specs.Kept.{kept_from}
 use Rattle.roundtrip.specs.Written.{page_for, pages_for}
 use Rattle.imaging.specs.Put.{Put}
-use Rattle.imaging.specs.Runs.{run_at, station_bytes}
+use Rattle.imaging.specs.Runs.{run_of, station_bytes}
 use Rattle.imaging.specs.Fitting.{Fitting}
 use Rattle.imaging.proofs.Placing.{placed-zeros}
 use Rattle.imaging.proofs.Runs.{LeftFor, left_all, left_run, left_next}
@@ -25,10 +24,7 @@ no_entry n i =
     (λ past.
     get_or-eq_default (replicate n 0) 0 {n = i} (omega (arith, length-replicate {A = ℕ} n 0)))
 
-module _ (kept : List ℕ) (count : ℕ) (directory : List ℕ) (room : ℕ) where
-  abbrev records : List MoveRecord
-  records = kept_from kept count 0
-
+module _ (records : List MoveRecord) (directory : List ℕ) (room : ℕ) where
   -- what page p says of the stations below u, and the page then
   abbrev said_of : ℕ → ℕ → List ℕ
   said_of u p = said (take u directory) records p
@@ -37,9 +33,9 @@ module _ (kept : List ℕ) (count : ℕ) (directory : List ℕ) (room : ℕ) whe
   page_of u p = so_far records p (take u directory)
 
   -- The stations below u are written.
-  pub record Filled (ends bytes : List ℕ) (next u : ℕ) : Type 0 where
+  pub record Filled (ends bytes : List ℕ) (left : List MoveRecord) (u : ℕ) : Type 0 where
     pub inside : u ≤ length directory
-    pub left : LeftFor records kept count next u
+    pub left_for : LeftFor records left u
     pub ends_length : length ends ≡ 256
     pub ends_said : (p : ℕ) → p < room / 256 → get_or ends p 0 ≡ length (said_of u p)
     pub pages : bytes ≡ pages_by (page_of u) (room / 256)
@@ -47,13 +43,13 @@ module _ (kept : List ℕ) (count : ℕ) (directory : List ℕ) (room : ℕ) whe
 
   module _ (fitting : Fitting directory records room) where
     pub filled_none : (ends bytes : List ℕ) → ends ≡ replicate 256 0 → bytes ≡ replicate (length bytes) 0
-        → length bytes ≡ room → Filled ends bytes 0 0
+        → length bytes ≡ room → Filled ends bytes records 0
     filled_none ends bytes none clear full =
         let pages = room / 256 in
         let all : length bytes ≡ 256 * pages = omega (arith, fitting.whole) in
         record {
           inside = omega arith;
-          left = left_all kept count fitting.by_station;
+          left_for = left_all records fitting.by_station;
           ends_length = ap length none;
           ends_said = λ p h. ap (λ l. get_or l p 0) none ∙ no_entry 256 p ∙ sym (said_nothing records p);
           pages =
@@ -64,7 +60,7 @@ module _ (kept : List ℕ) (count : ℕ) (directory : List ℕ) (room : ℕ) whe
           bytes_length = full;
         }
 
-    pub filled_all : (ends bytes : List ℕ) (next u : ℕ) → Filled ends bytes next u → u ≡ length directory
+    pub filled_all : (ends bytes : List ℕ) (left : List MoveRecord) (u : ℕ) → Filled ends bytes left u → u ≡ length directory
         → bytes ≡ pages_for directory records (room / 256) 0
     filled_all ends bytes next u f all =
         let whole : take u directory ≡ directory = ap (λ n. take n directory) all ∙ take-length directory in
@@ -77,10 +73,10 @@ module _ (kept : List ℕ) (count : ℕ) (directory : List ℕ) (room : ℕ) whe
         pages_for_lem directory records (room / 256) 0
 
     -- a station more, on page p
-    module _ (ends bytes : List ℕ) (next u p : ℕ) (f : Filled ends bytes next u) (more : u < length directory)
+    module _ (ends bytes : List ℕ) (left : List MoveRecord) (u p : ℕ) (f : Filled ends bytes left u) (more : u < length directory)
         (own : get_or directory u 0 ≡ p) where
       abbrev entries : List ℕ
-      entries = station_bytes u (run_at kept count next u)
+      entries = station_bytes u (run_of left u)
 
       on_page_lem : p < room / 256
       on_page_lem = omega (arith, fitting.paged u more)
@@ -88,7 +84,7 @@ module _ (kept : List ℕ) (count : ℕ) (directory : List ℕ) (room : ℕ) whe
       says_more : said_of (suc u) p ≡ said_of u p ++ entries
       says_more =
           said_own records p directory u more own ∙
-          ap (λ moves. said_of u p ++ station_bytes u moves) (sym (left_run kept count records next u f.left))
+          ap (λ moves. said_of u p ++ station_bytes u moves) (sym (left_run records left u f.left_for))
 
       says_longer : length (said_of (suc u) p) ≡ length (said_of u p) + length entries
       says_longer = ap length says_more ∙ length-append (said_of u p) entries
@@ -125,11 +121,11 @@ module _ (kept : List ℕ) (count : ℕ) (directory : List ℕ) (room : ℕ) whe
 
       pub filled_more : (after : List ℕ) (at : ℕ) → p < 256
           → Put bytes (256 * p + get_or ends p 0) entries after at → length after ≡ length bytes
-          → Filled (set ends p (at - 256 * p)) after (next + length (run_at kept count next u)) (u + 1)
+          → Filled (set ends p (at - 256 * p)) after (drop (length (run_of left u)) left) (u + 1)
       filled_more after at byte put same =
           rw (add-one u) (record {
             inside = omega arith;
-            left = left_next kept count records next u f.left;
+            left_for = left_next records left u f.left_for;
             ends_length = length-set ends p (at - 256 * p) ∙ f.ends_length;
             ends_said = ends_more at put.offset byte;
             pages =

@@ -5,7 +5,7 @@ use Rattle.listing.proofs.Station.{KeepingStation}
 use Rattle.listing.proofs.keep_station.Given as goal
 
 abbrev pub invariant-loop-m : goal.invariant-loop-m
-invariant-loop-m l = KeepingStation l.image l.p l.u l.first l.initial.kept l.at l.k l.kept
+invariant-loop-m l = KeepingStation l.image l.p l.u l.first l.initial.kept l.at l.count l.kept
 
 abbrev pub decreases-loop-m : goal.decreases-loop-m
 decreases-loop-m l = length l.page - l.at

@@ -1,5 +1,5 @@
 -- Refusals 2 to 5, in this order: each return by the tests that were passed before it and by its own.
-use Rattle.common.proofs.Ground.{◌≡◌, sym, ◌∙◌, false, ◌||◌, eqb, ltb, tests}
+use Rattle.common.proofs.Ground.{◌≡◌, ⊎_elim, sym, ◌∙◌, false, ◌||◌, eqb, ltb, tests}
 use Rattle.common.specs.Pick.{pick}
 use Rattle.image.specs.Image.{accepted, refused, at_station}
 use Rattle.roundtrip.specs.Written.{shape_check}
@@ -8,7 +8,7 @@ use Rattle.writing.proofs.check_shape.Goals as goal
 pub returns-then-outside : goal.returns-then-outside
 unfolding shape_check
 returns-then-outside c = record {
-  outcome = search (tests, c.refuse.ensures.outcome, ← c.outside.ensures.value, c.if-outside.true);
+  outcome = search (tests, ← c.outside.ensures.value, c.if-outside.true);
 }
 
 pub returns-then-outside-2 : goal.returns-then-outside-2
@@ -18,7 +18,6 @@ returns-then-outside-2 c =
     record {
       outcome = search (
         tests,
-        c.refuse-then-outside-2.ensures.outcome,
         stations_pass,
         ← c.outside-2.ensures.value,
         c.if-outside-2.true,
@@ -31,16 +30,10 @@ returns-then-room-size c =
     let stations_pass : eqb c.args.size 0 || ltb 2048 c.args.size ≡ false = sym c.outside.ensures.value ∙ c.if-outside.false in
     let pages_pass : eqb c.args.pages 0 || ltb 240 c.args.pages ≡ false = sym c.outside-2.ensures.value ∙ c.if-outside-2.false in
     record {
-      outcome = search (tests, c.refuse-then-room-size.ensures.outcome, stations_pass, pages_pass);
-    }
-
-pub returns-then-directory-size : goal.returns-then-directory-size
-unfolding shape_check
-returns-then-directory-size c =
-    let stations_pass : eqb c.args.size 0 || ltb 2048 c.args.size ≡ false = sym c.outside.ensures.value ∙ c.if-outside.false in
-    let pages_pass : eqb c.args.pages 0 || ltb 240 c.args.pages ≡ false = sym c.outside-2.ensures.value ∙ c.if-outside-2.false in
-    record {
-      outcome = search (tests, c.refuse-then-directory-size.ensures.outcome, stations_pass, pages_pass);
+      outcome =
+          ⊎_elim (λ other_room. search (tests, stations_pass, pages_pass))
+          (λ other_size. let room = other_size.0 in let size = other_size.1 in search (tests, stations_pass, pages_pass))
+          c.then-room-size.either;
     }
 
 pub returns-then-station-size : goal.returns-then-station-size
@@ -60,7 +53,7 @@ returns-then-station-size c =
           let st = c.first_not_below-station.result in
           let low : refused 5 (at_station st) ≡ pick (ltb st c.args.size) (refused 5 (at_station st)) accepted =
           search tests in
-          c.refuse-then-station-size.ensures.outcome ∙ low ∙ sym scan_decides;
+          low ∙ sym scan_decides;
     }
 
 pub returns : goal.returns

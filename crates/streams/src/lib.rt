@@ -1,16 +1,18 @@
 // Reading and writing by std's `read` and `write`. A call that a signal cut off, or whose other side is not ready yet, is
-// made again. A proved loop has to end, so calls are counted down, from a number that no run uses up.
+// made again. A proved loop has to end, so calls are counted, up to a number that no run comes to.
+
+#![tactic(auto)]
 
 ghost use Rattle.std.specs.Prelude.{◌≤◌, length};
 
 use std::io::{Error, ErrorKind};
 use std::{hint, io};
 
-// What reading left: so many bytes at the buffer's front, and why a read failed, if one did.
+// What reading left: so many bytes at the buffer's front, and whether a read failed. The bytes before a failure stand.
 #[derive(Drop)]
 pub struct Read {
     pub size: usize,
-    pub failed: Option<Error>,
+    pub end: io::Result<()>,
 }
 
 // Whether to call again after a call that failed so: not after an error that lasts.
@@ -27,43 +29,38 @@ pub fn read_full<R: io::Read>(input: &mut R, buffer: &mut [u8]) -> Read
     ensures within { result.size ≤ length buffer.new }
 {
     let mut size = 0;
-    let mut calls = u64::MAX;
-    while calls > 0 && size < buffer.len() {
+    for _ in 0..u64::MAX {
+        if size == buffer.len() {
+            break;
+        }
         match input.read(&mut buffer[size..]) {
             Ok(0) => break,
             Ok(moved) => size += moved,
+            Err(error) if goes_on(&error) => {}
             Err(error) => {
-                if !goes_on(&error) {
-                    return Read {
-                        size,
-                        failed: Some(error),
-                    };
-                }
+                return Read {
+                    size,
+                    end: Err(error),
+                };
             }
         }
-        calls -= 1;
     }
-    Read { size, failed: None }
+    Read { size, end: Ok(()) }
 }
 
 // Writes all bytes and flushes them, or answers why it couldn't.
 pub fn write_all<W: io::Write>(output: &mut W, bytes: &[u8]) -> io::Result<()> {
-    let mut done = 0;
-    let mut calls = u64::MAX;
-    while calls > 0 && done < bytes.len() {
-        match output.write(&bytes[done..]) {
-            Ok(0) => break,
-            Ok(moved) => done += moved,
-            Err(error) => {
-                if !goes_on(&error) {
-                    return Err(error);
-                }
-            }
+    let mut rest = bytes;
+    for _ in 0..u64::MAX {
+        if rest.is_empty() {
+            return output.flush();
         }
-        calls -= 1;
+        match output.write(rest) {
+            Ok(0) => break,
+            Ok(moved) => rest = &rest[moved..],
+            Err(error) if goes_on(&error) => {}
+            Err(error) => return Err(error),
+        }
     }
-    if done < bytes.len() {
-        return Err(Error::from(ErrorKind::WriteZero));
-    }
-    output.flush()
+    Err(Error::from(ErrorKind::WriteZero))
 }
