@@ -5,6 +5,7 @@
 #![tactic(auto)]
 
 ghost use Rattle.std.specs.Prelude.{◌≡◌, ◌⊎◌, pos};
+ghost use Rattle.std.specs.Process.{exit_status};
 
 use coil::ROOM;
 use coil::program::{FILE, RECORD, answer_turn, image_of};
@@ -91,8 +92,10 @@ pub fn coils_run<R: Files + Input + Print + Eprint>(rt: &R) -> i32
     i32::from(map.is_err() || !answered)
 }
 
-// The same as a program ends with it.
-pub fn exit_code<R: Files + Input + Print + Eprint>(rt: &R) -> ExitCode {
+// The same as that with which a program ends.
+pub fn exit_code<R: Files + Input + Print + Eprint>(rt: &R) -> ExitCode
+    ensures status { (exit_status result ≡ 0) ⊎ (exit_status result ≡ 1) }
+{
     if coils_run(rt) == 0 {
         ExitCode::SUCCESS
     } else {

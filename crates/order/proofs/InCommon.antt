@@ -1,30 +1,25 @@
 -- What two images have in common is passed: of one station, and station by station.
 use Rattle.common.proofs.Ground.{◌≡◌, refl, ap, sym, ◌∙◌, Bool, true, false, ◌&&◌, List, [], ◌∷◌, ◌++◌, append_assoc}
-use Rattle.common.proofs.Ground.{map, ℕ, ◌-◌, ◌≤◌, ◌<◌, arith, length, eqb, eq-eqb, eqb-true}
+use Rattle.common.proofs.Ground.{map, ℕ, ◌-◌, ◌≤◌, ◌<◌, arith, length, eqb, eqb-true}
 use Rattle.common.specs.Pick.{pick}
 use Rattle.common.proofs.Cases.{never, by_pick}
 use Rattle.commands.specs.declared.Move.{Move}
 use Rattle.image.specs.Image.{page_bytes}
 use Rattle.move_record.specs.declared.MoveRecord.{MoveRecord}
 use Rattle.roundtrip.specs.Records.{record_for}
-use Rattle.by_station.specs.declared.NextMove.{NextMove}
-use Rattle.by_station.specs.declared.NextMove.TheVariants.{Found, Over}
+use Rattle.std.specs.Prelude.{Option, Some, None}
 use Rattle.by_station.specs.Next.{next_move}
 use Rattle.by_station.specs.Reached.{Reached}
 use Rattle.by_station.proofs.Reached.{reached-move, found_behind}
 use Rattle.ordering.specs.Order.{by_records}
 use Rattle.ordering.proofs.Equal.{record_itself}
-use Rattle.order.specs.declared.passing.Step.TheVariants.{On, Parted, Ended}
-use Rattle.order.specs.Passing.{same_move, step_of, Passed, none, more}
+use Rattle.order.specs.Passing.{same_move, goes_on, parted, ended, step_of, Passed, none, more}
 
--- The tests of two moves, and of what stands on two pages, as the code makes them.
-pub last_test : (m n : Move) → m.target ≡ n.target → m.time ≡ n.time → eqb m.limit n.limit ≡ same_move m n
-last_test m n target time = rw (eq-eqb m.target n.target target, eq-eqb m.time n.time time)
-
-pub both_found : (first second : NextMove) (m n : Move) (behind also_behind : ℕ) (same : Bool) → first ≡ Found m behind
-    → second ≡ Found n also_behind → same_move m n ≡ same
-    → pick same (On behind also_behind) Parted ≡ step_of first second
-both_found first second m n behind also_behind same found also is = rw (found, also, is)
+-- Both go on with the same move.
+pub step_on : {first second : Option (Move × ℕ)} {x y m n : Move} {behind also_behind : ℕ} → first ≡ Some (m, behind)
+    → second ≡ Some (n, also_behind) → x ≡ m → y ≡ n → true ≡ same_move x y
+    → step_of first second ≡ goes_on behind also_behind
+step_on found also is also_is same = rw (found, also, sym (rw (is, also_is) at same))
 
 -- Moves that have the same numbers are the same.
 same_numbers : (m n : Move) → same_move m n ≡ true → m ≡ n
@@ -45,38 +40,40 @@ same_numbers m n e =
     by_tests false b c x y z q = never (cc)
 
 -- What a step says of the two moves: both go on with the same one.
-pub record Both (first second : NextMove) (behind also_behind : ℕ) : Type 0 where
+pub record Both (first second : Option (Move × ℕ)) (behind also_behind : ℕ) : Type 0 where
   pub move : Move
-  pub first_found : first ≡ Found move behind
-  pub second_found : second ≡ Found move also_behind
+  pub first_found : first ≡ Some (move, behind)
+  pub second_found : second ≡ Some (move, also_behind)
 
-both : (first second : NextMove) (behind also_behind : ℕ) → step_of first second ≡ On behind also_behind
+both : (first second : Option (Move × ℕ)) (behind also_behind : ℕ) → step_of first second ≡ goes_on behind also_behind
     → Both first second behind also_behind
-both (Found m x) (Found n y) behind also_behind e = by_test (same_move m n) refl e
+both (Some (m, x)) (Some (n, y)) behind also_behind e = by_test (same_move m n) refl e
   where
-    by_test : (same : Bool) → same_move m n ≡ same → pick same (On x y) Parted ≡ On behind also_behind
-        → Both (Found m x) (Found n y) behind also_behind
+    by_test : (same : Bool) → same_move m n ≡ same → pick same (goes_on x y) parted ≡ goes_on behind also_behind
+        → Both (Some (m, x)) (Some (n, y)) behind also_behind
     by_test true is q =
         let moves = same_numbers m n is in
         let first : x ≡ behind = cc in
         let second : y ≡ also_behind = cc in
         record { move = m; first_found = cc; second_found = cc }
     by_test false is q = never (cc)
-both (Found m x) Over behind also_behind e = never (cc)
-both Over (Found n y) behind also_behind e = never (cc)
-both Over Over behind also_behind e = never (cc)
+both (Some (m, x)) None behind also_behind e = never (cc)
+both None (Some (n, y)) behind also_behind e = never (cc)
+both None None behind also_behind e = never (cc)
 
 -- A station ends in both only where neither goes on.
-pub both_over : (first second : NextMove) → step_of first second ≡ Ended → (first ≡ Over) × (second ≡ Over)
-both_over Over Over e = (refl, refl)
-both_over Over (Found n y) e = never (cc)
-both_over (Found m x) Over e = never (cc)
-both_over (Found m x) (Found n y) e =
-    by_pick (λ step. step ≡ Ended → (Found m x ≡ Over) × (Found n y ≡ Over)) (same_move m n) {x = On x y} {y = Parted}
+pub both_over : (first second : Option (Move × ℕ)) → step_of first second ≡ ended → (first ≡ None) × (second ≡ None)
+both_over None None e = (refl, refl)
+both_over None (Some (n, y)) e = never (cc)
+both_over (Some (m, x)) None e = never (cc)
+both_over (Some (m, x)) (Some (n, y)) e =
+    let found : Option (Move × ℕ) = Some (m, x) in
+    let also : Option (Move × ℕ) = Some (n, y) in
+    by_pick (λ step. step ≡ ended → (found ≡ None) × (also ≡ None)) (same_move m n) {x = goes_on x y} {y = parted}
     (λ same q. never (cc)) (λ unlike q. never (cc)) e
 
 pub on_less : (page other : List ℕ) (at with behind also_behind : ℕ)
-    → step_of (next_move page at) (next_move other with) ≡ On behind also_behind
+    → step_of (next_move page at) (next_move other with) ≡ goes_on behind also_behind
     → length page - behind < length page - at
 on_less page other at with behind also_behind e =
     let found = (both (next_move page at) (next_move other with) behind also_behind e).first_found in

@@ -10,8 +10,7 @@ use Rattle.commands.specs.Commands.{length_of}
 use Rattle.whole.specs.Check.{whole_check}
 use Rattle.move_record.specs.declared.MoveRecord.{MoveRecord}
 use Rattle.roundtrip.specs.Records.{record_for, records_of}
-use Rattle.by_station.specs.declared.NextRecord.{NextRecord}
-use Rattle.by_station.specs.declared.NextRecord.TheVariants.{Found, Over}
+use Rattle.std.specs.Prelude.{Option, Some, None}
 use Rattle.by_station.specs.Next.{next_move}
 use Rattle.by_station.specs.Reached.{Reached}
 use Rattle.by_station.specs.Standing.{page_at, records_behind, Stepped}
@@ -19,9 +18,8 @@ use Rattle.by_station.proofs.Reached.{next_over, next-first, reached_over}
 use Rattle.by_station.proofs.Standing.{standing_at, standing_behind, standing_over, first_from}
 use Rattle.ordering.specs.Order.{Order, first_less, equal, second_less, and_then, by_record, by_records}
 use Rattle.ordering.proofs.Equal.{equal_record}
-use Rattle.order.specs.declared.passing.Step.TheVariants.{Parted, Ended}
 use Rattle.order.specs.Next.{next_order}
-use Rattle.order.specs.Passing.{same_move, step_of, Passed, PassedStation, Walking, Part, PassedStations}
+use Rattle.order.specs.Passing.{same_move, parted, ended, step_of, Passed, PassedStation, Walking, Part, PassedStations}
 use Rattle.order.proofs.InCommon.{both_over, Common, in_common, without_common}
 
 -- Records of one station are the same only if their moves are.
@@ -69,7 +67,7 @@ module _ (first second : List ℕ) (whole : whole_check first ≡ accepted) (als
         without_common u k.passed left also_left
 
     -- Both have no more of it: the walks stand at the next station.
-    next_station : step_of (next_move (page_bytes first p) at) (next_move (page_bytes second q) with) ≡ Ended
+    next_station : step_of (next_move (page_bytes first p) at) (next_move (page_bytes second q) with) ≡ ended
         → Walking first second (set offsets p (at + length_of 1)) (set others q (with + length_of 1)) (u + 1)
     next_station e =
         let over = both_over (next_move (page_bytes first p) at) (next_move (page_bytes second q) with) e in
@@ -93,7 +91,7 @@ module _ (first second : List ℕ) (whole : whole_check first ≡ accepted) (als
         let from = first_from image (station_count image - (u + 1)) (u + 1) r rest e in omega arith
 
     parts : (moves also_moves : List Move) → Reached first p (u + 1) at moves → Reached second q (u + 1) with also_moves
-        → step_of (next_move (page_bytes first p) at) (next_move (page_bytes second q) with) ≡ Parted
+        → step_of (next_move (page_bytes first p) at) (next_move (page_bytes second q) with) ≡ parted
         → Part (map (record_for u) moves ++ records_behind first u)
         (map (record_for u) also_moves ++ records_behind second u)
     parts [] [] reached also_reached e r rest also_rest is also =
@@ -111,9 +109,9 @@ module _ (first second : List ℕ) (whole : whole_check first ≡ accepted) (als
         let step = rw (found, also_found, same_move_lem u m n same) at e in
         never (cc)
 
-    parted : step_of (next_move (page_bytes first p) at) (next_move (page_bytes second q) with) ≡ Parted
+    lists_part : step_of (next_move (page_bytes first p) at) (next_move (page_bytes second q) with) ≡ parted
         → PassedStations first second (set offsets p at) (set others q with) u
-    parted e = record {
+    lists_part e = record {
       walking = record {
         first_left = left;
         second_left = also_left;
@@ -155,7 +153,7 @@ module _ (first second : List ℕ) (whole : whole_check first ≡ accepted) (als
         → PassedStations first second after others_after u
     station_parted s =
         rw (s.first, s.second)
-        (parted more s.at s.with (common s.at s.with s.moves.passed) s.moves.stopped)
+        (lists_part more s.at s.with (common s.at s.with s.moves.passed) s.moves.stopped)
 
   -- All stations are passed: nothing is left of either list.
   pub all_passed : station_count first ≤ u → PassedStations first second offsets others u
@@ -166,11 +164,11 @@ module _ (first second : List ℕ) (whole : whole_check first ≡ accepted) (als
   }
 
 -- Where the lists part, their order is that of the next records.
-pub next_decides : (first second offsets others : List ℕ) (left also_left : List MoveRecord) (r s : NextRecord)
+pub next_decides : (first second offsets others : List ℕ) (left also_left : List MoveRecord) (r s : Option MoveRecord)
     → Stepped first left r offsets → Stepped second also_left s others → Part left also_left
     → next_order r s ≡ by_records left also_left
 unfolding by_records
-next_decides first second offsets others left also_left (Found r) (Found s) found also part =
+next_decides first second offsets others left also_left (Some r) (Some s) found also part =
     rw (found.1, also.1) (by_order (by_record r s) refl)
   where
     by_order : (o : Order) → by_record r s ≡ o → o ≡ and_then o (by_records found.0 also.0)
@@ -179,6 +177,6 @@ next_decides first second offsets others left also_left (Found r) (Found s) foun
         let same = equal_record r s e in
         absurd (part r found.0 also.0 found.1 (also.1 ∙ ap (λ x. x ∷ also.0) (sym same)))
     by_order second_less e = refl
-next_decides first second offsets others left also_left (Found r) Over found none part = rw (found.1, none)
-next_decides first second offsets others left also_left Over (Found s) none also part = rw (none, also.1)
-next_decides first second offsets others left also_left Over Over none neither part = rw (none, neither)
+next_decides first second offsets others left also_left (Some r) None found none part = rw (found.1, none)
+next_decides first second offsets others left also_left None (Some s) none also part = rw (none, also.1)
+next_decides first second offsets others left also_left None None none neither part = rw (none, neither)

@@ -5,35 +5,38 @@ use Rattle.commands.specs.declared.Move.{Move}
 use Rattle.commands.specs.Commands.{length_of}
 use Rattle.move_record.specs.declared.MoveRecord.{MoveRecord}
 use Rattle.roundtrip.specs.Records.{records_of}
-use Rattle.by_station.specs.declared.NextMove.{NextMove}
-use Rattle.by_station.specs.declared.NextMove.TheVariants.{Found, Over}
+use Rattle.std.specs.Prelude.{Option, Some, None}
 use Rattle.by_station.specs.Next.{next_move}
 use Rattle.by_station.specs.Standing.{Standing}
 use Rattle.ordering.specs.Order.{by_records}
-use Rattle.order.specs.declared.passing.Step.{Step}
-use Rattle.order.specs.declared.passing.Step.TheVariants.{On, Parted, Ended}
 
 abbrev pub same_move : Move → Move → Bool
 same_move m n = eqb m.target n.target && (eqb m.time n.time && eqb m.limit n.limit)
 
-abbrev pub step_of : NextMove → NextMove → Step
-step_of (Found m behind) (Found n also_behind) = pick (same_move m n) (On behind also_behind) Parted
-step_of (Found m behind) Over = Parted
-step_of Over (Found n also_behind) = Parted
-step_of Over Over = Ended
+-- How a station goes on in two images: with a move that both have, and the offsets behind it; not alike; or not at all.
+pub data Step : Type 0 where
+  goes_on : ℕ → ℕ → Step
+  parted : Step
+  ended : Step
+
+abbrev pub step_of : Option (Move × ℕ) → Option (Move × ℕ) → Step
+step_of (Some (m, behind)) (Some (n, also_behind)) = pick (same_move m n) (goes_on behind also_behind) parted
+step_of (Some found) None = parted
+step_of None (Some found) = parted
+step_of None None = ended
 
 -- From two offsets of two pages up to two others the moves are the same.
 module _ (page other : List ℕ) where
   pub data Passed (from also_from : ℕ) : ℕ → ℕ → Type 0 where
     none : Passed from also_from from also_from
     more : {at with : ℕ} (behind also_behind : ℕ) → Passed from also_from at with
-        → step_of (next_move page at) (next_move other with) ≡ On behind also_behind
+        → step_of (next_move page at) (next_move other with) ≡ goes_on behind also_behind
         → Passed from also_from behind also_behind
 
 -- They are passed as far as they go: there a station ends on both pages, or they go on with other moves.
 pub record PassedMoves (page : List ℕ) (from : ℕ) (other : List ℕ) (also_from at with : ℕ) (over : Bool) : Type 0 where
   pub passed : Passed page other from also_from at with
-  pub stopped : step_of (next_move page at) (next_move other with) ≡ pick over Ended Parted
+  pub stopped : step_of (next_move page at) (next_move other with) ≡ pick over ended parted
 
 -- The same of a station on page p and on page q, by how far pages are read: behind its moves the next station's own
 -- command is passed too.

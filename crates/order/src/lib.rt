@@ -11,34 +11,25 @@ ghost use Rattle.ordering.specs.Order.{by_records, by_map, naming, lesser_of};
 ghost use Rattle.ordering.specs.Promises.{NamingPromised};
 ghost use Rattle.order.specs.Answers.{order_in, naming_in};
 
-mod comparing;
 mod passing;
 
-use by_station::{PAGES, next_record};
+use by_station::next_record;
 use commands::{STATION, length_of};
-use comparing::{by_next, by_number};
-use image::{Checked, Refusal, station_count};
+use image::{Refusal, station_count};
+use layout::places::PAGES;
 use passing::pass_stations;
+use std::cmp::Ordering;
 use whole::check;
 
-// How the first of two stands to the second.
-#[derive(Clone, Copy)]
-pub enum Comparison {
-    FirstLess,
-    Equal,
-    SecondLess,
-}
-
-// What the naming call answers: the order of two maps, or which image is refused by the whole check.
-#[derive(Clone, Copy)]
-pub enum OrderAnswer {
-    Ordered(Comparison),
-    FirstRefused(Refusal),
-    SecondRefused(Refusal),
+// Which of two images is refused by the whole check.
+#[derive(Clone, Copy, Debug, PartialEq, Eq)]
+pub enum OrderRefusal {
+    First(Refusal),
+    Second(Refusal),
 }
 
 // The order of the records of two wholly good images of as many stations.
-fn by_records(first: &[u8], second: &[u8]) -> Comparison
+fn by_records(first: &[u8], second: &[u8]) -> Ordering
     requires first { whole_check first.now ≡ accepted }
     requires second { whole_check second.now ≡ accepted }
     requires stations { station_count first.now ≡ station_count second.now }
@@ -48,35 +39,30 @@ fn by_records(first: &[u8], second: &[u8]) -> Comparison
     let mut first_offsets = [begin; PAGES];
     let mut second_offsets = [begin; PAGES];
     let u = pass_stations(first, second, &mut first_offsets, &mut second_offsets);
+    // A list that is over comes first, as None does.
     let r = next_record(first, u, &mut first_offsets);
     let s = next_record(second, u, &mut second_offsets);
-    by_next(r, s)
+    r.cmp(&s)
 }
 
-fn by_map(first: &[u8], second: &[u8]) -> Comparison
+fn by_map(first: &[u8], second: &[u8]) -> Ordering
     requires first { whole_check first.now ≡ accepted }
     requires second { whole_check second.now ≡ accepted }
     ensures value { order_in result ≡ by_map first.now second.now }
 {
-    match by_number(station_count(first), station_count(second)) {
-        Comparison::FirstLess => Comparison::FirstLess,
-        Comparison::Equal => by_records(first, second),
-        Comparison::SecondLess => Comparison::SecondLess,
+    match station_count(first).cmp(&station_count(second)) {
+        Ordering::Equal => by_records(first, second),
+        unequal => unequal,
     }
 }
 
-// The naming call: which of two maps is less, or that they are equal. It refuses by the whole check, the first image
-// first.
-pub fn compare(first: &[u8], second: &[u8]) -> OrderAnswer
+// The naming call: how the first of two maps stands to the second. It refuses by the whole check, the first image first.
+pub fn compare(first: &[u8], second: &[u8]) -> Result<Ordering, OrderRefusal>
     ensures promised { NamingPromised first.now second.now (naming_in result) }
 {
-    match check(first) {
-        Checked::Whole => match check(second) {
-            Checked::Whole => OrderAnswer::Ordered(by_map(first, second)),
-            Checked::Refused(refusal) => OrderAnswer::SecondRefused(refusal),
-        },
-        Checked::Refused(refusal) => OrderAnswer::FirstRefused(refusal),
-    }
+    check(first).map_err(OrderRefusal::First)?;
+    check(second).map_err(OrderRefusal::Second)?;
+    Ok(by_map(first, second))
 }
 
 // The lesser of two images itself, not a copy; of equals, or if one is refused, the first.
@@ -84,12 +70,7 @@ pub fn lesser<'a>(first: &'a [u8], second: &'a [u8]) -> &'a [u8]
     ensures itself { result ≡ lesser_of (naming first.now second.now) first.entry second.entry }
 {
     match compare(first, second) {
-        OrderAnswer::Ordered(order) => match order {
-            Comparison::FirstLess => first,
-            Comparison::Equal => first,
-            Comparison::SecondLess => second,
-        },
-        OrderAnswer::FirstRefused(refusal) => first,
-        OrderAnswer::SecondRefused(refusal) => first,
+        Ok(Ordering::Greater) => second,
+        _ => first,
     }
 }

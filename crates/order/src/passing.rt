@@ -5,54 +5,15 @@
 ghost use Rattle.std.specs.Prelude.{◌≡◌, ◌≤◌, length, get_or};
 ghost use Rattle.image.specs.Image.{accepted, station_count, page_bytes};
 ghost use Rattle.whole.specs.Check.{whole_check};
-ghost use Rattle.order.specs.Passing.{same_move, step_of, PassedMoves, PassedStation};
+ghost use Rattle.order.specs.Passing.{PassedMoves, PassedStation};
 ghost use Rattle.order.specs.Passing.{Walking, PassedStations};
 
-use by_station::{NextMove, next_move};
-use commands::{Move, STATION, length_of};
+use by_station::next_move;
+use commands::{STATION, length_of};
 use image::{directory_of, page_of};
 
-// How a station goes on in two images: with a move that both have, and the offsets behind it; not alike; or not at all.
-#[derive(Clone, Copy)]
-enum Step {
-    On(usize, usize),
-    Parted,
-    Ended,
-}
-
-fn same_move(m: Move, n: Move) -> bool
-    ensures value { result ≡ same_move m n }
-{
-    if m.target != n.target {
-        return false;
-    }
-    if m.time != n.time {
-        return false;
-    }
-    m.limit == n.limit
-}
-
-fn next_step(first: NextMove, second: NextMove) -> Step
-    ensures value { result ≡ step_of first second }
-{
-    match first {
-        NextMove::Found(m, behind) => match second {
-            NextMove::Found(n, also_behind) => {
-                if same_move(m, n) {
-                    return Step::On(behind, also_behind);
-                }
-                Step::Parted
-            }
-            NextMove::Over => Step::Parted,
-        },
-        NextMove::Over => match second {
-            NextMove::Found(n, also_behind) => Step::Parted,
-            NextMove::Over => Step::Ended,
-        },
-    }
-}
-
-// How far the moves of a station were passed on its page in either image, and whether both have no more.
+// How far the moves of a station were passed on its page in either image, and whether both have no more: the offsets
+// count either way.
 #[derive(Clone, Copy)]
 struct Passed {
     first: usize,
@@ -67,20 +28,20 @@ fn pass_moves(first: &[u8], from: usize, second: &[u8], also: usize) -> Passed
     let mut at = from;
     let mut with = also;
     loop {
-        match next_step(next_move(first, at), next_move(second, with)) {
-            Step::On(behind, also_behind) => {
+        match (next_move(first, at), next_move(second, with)) {
+            (Some((m, behind)), Some((n, also_behind))) if m == n => {
                 at = behind;
                 with = also_behind;
             }
-            Step::Parted => return Passed {
-                first: at,
-                second: with,
-                over: false,
-            },
-            Step::Ended => return Passed {
+            (None, None) => return Passed {
                 first: at,
                 second: with,
                 over: true,
+            },
+            _ => return Passed {
+                first: at,
+                second: with,
+                over: false,
             },
         }
     }
@@ -133,8 +94,7 @@ pub fn pass_stations(
 {
     let directory = directory_of(first);
     let other_directory = directory_of(second);
-    let mut u: usize = 0;
-    while u < directory.len() {
+    for u in 0..directory.len() {
         if !pass_station(
             first,
             directory[u],
@@ -145,7 +105,6 @@ pub fn pass_stations(
         ) {
             return u;
         }
-        u += 1;
     }
-    u
+    directory.len()
 }

@@ -2,20 +2,21 @@
 // refusal's number and the place that it names.
 
 use cases_io::Told;
-use order::{Comparison, OrderAnswer};
+use order::OrderRefusal;
+use std::cmp::Ordering;
 use std::fmt;
 
 #[derive(Clone, Copy)]
-pub struct Answered(pub OrderAnswer);
+pub struct Answered(pub Result<Ordering, OrderRefusal>);
 
 impl fmt::Display for Answered {
     fn fmt<W: fmt::Write>(&self, f: &mut fmt::Formatter<W>) -> fmt::Result {
         match self.0 {
-            OrderAnswer::Ordered(Comparison::FirstLess) => write!(f, "first less"),
-            OrderAnswer::Ordered(Comparison::Equal) => write!(f, "equal"),
-            OrderAnswer::Ordered(Comparison::SecondLess) => write!(f, "second less"),
-            OrderAnswer::FirstRefused(refusal) => write!(f, "first {}", Told(refusal)),
-            OrderAnswer::SecondRefused(refusal) => write!(f, "second {}", Told(refusal)),
+            Ok(Ordering::Less) => write!(f, "first less"),
+            Ok(Ordering::Equal) => write!(f, "equal"),
+            Ok(Ordering::Greater) => write!(f, "second less"),
+            Err(OrderRefusal::First(refusal)) => write!(f, "first {}", Told(refusal)),
+            Err(OrderRefusal::Second(refusal)) => write!(f, "second {}", Told(refusal)),
         }
     }
 }

@@ -1,4 +1,4 @@
--- What a caller may cite: what an answer `Found` says; that what the definition finds is a route, whose properties are
+-- What a caller may cite: what an answer `Ok (Some count)` says; that what the definition finds is a route, whose properties are
 -- in proofs/Positions.antt, and the converse; that the route to a station on a route is its front part; that a chain
 -- which meets the source within n - 1 steps is found; and so that every route by a search's predecessors is.
 use Rattle.common.proofs.Ground.{◌≡◌, ◌≢◌, refl, ap, sym, ◌∙◌, Bool, true, false, ⊎_elim, List, [], ◌∷◌, ◌++◌, ℕ, zero}
@@ -11,12 +11,12 @@ use Rattle.common.proofs.Cases.{le-or-lt}
 use Rattle.route.specs.Route.{Chain, whole, broken, chain, trail}
 use Rattle.route.specs.Route.{Outcome, found, no_route, refused, fitted, outcome, RouteTo, begins, extends}
 use Rattle.route.specs.Route.{stations, unreached, turned_down, Handed, handed_back, returned, route_call}
-use Rattle.route.specs.declared.RouteAnswer.TheVariants.{Found}
+use Rattle.std.specs.Prelude.{Some, Ok}
 use Rattle.route.proofs.Routes.{one_longer, whole_is_route, whole_is_short, route_station, route_found}
 use Rattle.route.proofs.Positions.{station_at, route_front}
 use Rattle.route.proofs.Calls.{outcome_many, outcome_no_station, outcome_none, outcome-chain}
 
--- What an answer `Found` says: the definition finds a route, and its stations stand at the front of the output.
+-- What an answer `Ok (Some count)` says: the definition finds a route, and its stations stand at the front of the output.
 pub record Wrote (preds : List ℕ) (station : ℕ) (out : List ℕ) (count : ℕ) (after : List ℕ) : Type 0 where
   pub route : List ℕ
   pub is_found : outcome preds station (length out) ≡ found route
@@ -24,11 +24,11 @@ pub record Wrote (preds : List ℕ) (station : ℕ) (out : List ℕ) (count : �
   pub written : after ≡ route ++ drop (length route) out
 
 pub answer_found : (preds : List ℕ) (station : ℕ) (out : List ℕ) (count : ℕ) (after : List ℕ) →
-    returned (Found count) after ≡ route_call preds station out → Wrote preds station out count after
+    returned (Ok (Some count)) after ≡ route_call preds station out → Wrote preds station out count after
 unfolding route_call
 answer_found preds station out count after e = by (outcome preds station (length out)) refl e
   where
-    by : (o : Outcome) → outcome preds station (length out) ≡ o → returned (Found count) after ≡ handed_back o out →
+    by : (o : Outcome) → outcome preds station (length out) ≡ o → returned (Ok (Some count)) after ≡ handed_back o out →
         Wrote preds station out count after
     by (found route) f g =
         let same : stations count ≡ stations (length route) = ap (λ (h : Handed). h.answer) g in

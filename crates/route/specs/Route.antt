@@ -1,8 +1,9 @@
 -- What the call `route` has to hand back, as functions on lists (01, "Route, whole check, program" and rows 15 to 17 of
 -- "What is turned down"). Each definition stands under the sentence that it states; n is the number of predecessors.
 use Rattle.std.specs.Prelude.{◌≡◌, ◌||◌, List, [], ◌∷◌, ◌++◌, ℕ, zero, suc, ◌<◌, length, drop, ltb, leb, eqb}
-use Rattle.route.specs.declared.RouteAnswer.{RouteAnswer}
-use Rattle.route.specs.declared.RouteAnswer.TheVariants.{Found, NoRoute, Refused}
+use Rattle.std.specs.Prelude.{Option, Some, None, Result, Ok, Err}
+use Rattle.route.specs.declared.RouteRefusal.{RouteRefusal}
+use Rattle.route.specs.declared.RouteRefusal.TheVariants.{Station as no_station, Chain as no_chain, Room as no_room}
 use Rattle.common.specs.Pick.{pick}
 use Rattle.common.specs.Numbers.{source_mark, no_pred}
 use Rattle.common.specs.Chains.{pred_at}
@@ -65,13 +66,18 @@ handed_back no_route out = record { answer = unreached; output = out }
 handed_back (refused number) out = record { answer = turned_down number; output = out }
 
 -- What the answer's cases mean in the paper's words.
-abbrev pub meaning : RouteAnswer → Answer
-meaning (Found count) = stations count
-meaning NoRoute = unreached
-meaning (Refused number) = turned_down number
+abbrev pub number_of : RouteRefusal → ℕ
+number_of no_station = 15
+number_of no_chain = 16
+number_of no_room = 17
+
+abbrev pub meaning : Result (Option ℕ) RouteRefusal → Answer
+meaning (Ok (Some count)) = stations count
+meaning (Ok None) = unreached
+meaning (Err refusal) = turned_down (number_of refusal)
 
 -- What a call handed back: its answer's meaning and every entry of the output.
-abbrev pub returned : RouteAnswer → List ℕ → Handed
+abbrev pub returned : Result (Option ℕ) RouteRefusal → List ℕ → Handed
 returned answer out = record { answer = meaning answer; output = out }
 
 -- What a call has to hand back, for all arguments.
@@ -79,9 +85,9 @@ unfoldable pub route_call : List ℕ → ℕ → List ℕ → Handed
 route_call preds station out = handed_back (outcome preds station (length out)) out
 
 -- For the parts of the code: how many stations a chain has, none where it is broken.
-abbrev pub stations_of : Chain → ℕ
-stations_of (whole route) = length route
-stations_of broken = 0
+abbrev pub stations_of : Chain → Option ℕ
+stations_of (whole route) = Some (length route)
+stations_of broken = None
 
 -- The last k stations on the way to v, by predecessors alone.
 unfoldable pub trail : List ℕ → ℕ → ℕ → List ℕ

@@ -5,48 +5,61 @@
 
 ghost use Rattle.std.specs.Prelude.{◌≡◌, ◌≤◌, length};
 ghost use Rattle.common.specs.Chains.{pred_at};
-ghost use Rattle.route.specs.Route.{chain, stations_of, written_to, returned, route_call};
+ghost use Rattle.route.specs.Route.{chain, stations_of, written_to, number_of, returned, route_call};
 
 use common::{NO_PRED, SOURCE};
 
 // The greatest number of stations of a map.
 const MOST: usize = 2048;
 
-// What a call answers: how many stations it wrote, that no route leads to the station, or the refusal's number.
-#[derive(Clone, Copy)]
-pub enum RouteAnswer {
-    Found(usize),
-    NoRoute,
-    Refused(u8),
+// Why a call is refused.
+#[derive(Clone, Copy, Debug, PartialEq, Eq)]
+pub enum RouteRefusal {
+    // There are no stations or more than a map has, or the station is none of them.
+    Station,
+    // The chain of predecessors is broken.
+    Chain,
+    // The output is shorter than the route.
+    Room,
+}
+
+impl RouteRefusal {
+    // The refusal's number in document 01.
+    pub fn number(self) -> u8
+        ensures { result ≡ number_of self }
+    {
+        match self {
+            RouteRefusal::Station => 15,
+            RouteRefusal::Chain => 16,
+            RouteRefusal::Room => 17,
+        }
+    }
 }
 
 // A number that is no station has no predecessor, so a chain that leaves the table ends there.
 fn predecessor_at(preds: &[u16], v: u16) -> u16
     ensures value { result ≡ pred_at preds.now v }
 {
-    let at = v as usize;
-    if at < preds.len() { preds[at] } else { NO_PRED }
+    preds.get(v as usize).copied().unwrap_or(NO_PRED)
 }
 
-// How many stations the chain has from the source to the station; 0 where it is broken. A chain of n stations takes
+// How many stations the chain has from the source to the station, unless it is broken. A chain of n stations takes
 // n - 1 steps, so the n-th station is the last that may be the source.
-fn count_stations(preds: &[u16], station: u16) -> usize
+fn count_stations(preds: &[u16], station: u16) -> Option<usize>
     ensures count { result ≡ stations_of (chain preds.now (length preds.now) station) }
 {
     let mut v = station;
-    let mut passed: usize = 0;
-    while passed < preds.len() {
+    for passed in 1..=preds.len() {
         let before = predecessor_at(preds, v);
-        passed += 1;
         if before == SOURCE {
-            return passed;
+            return Some(passed);
         }
         if preds.len() <= before as usize {
-            return 0;
+            return None;
         }
         v = before;
     }
-    0
+    None
 }
 
 // Writes the last `count` stations on the way to the station, in the order of the way, at the front of the output.
@@ -55,35 +68,29 @@ fn write_stations(preds: &[u16], station: u16, count: usize, out: &mut [u16])
     ensures written { out.new ≡ written_to preds.now count station out.old }
 {
     let mut v = station;
-    let mut left = count;
-    while 0 < left {
-        left -= 1;
-        out[left] = v;
+    // By index: of what is written through iter_mut().rev() a proof keeps only the length.
+    for at in (0..count).rev() {
+        out[at] = v;
         v = predecessor_at(preds, v);
     }
 }
 
-// The stations from the source to the station, written to the front of the output.
-pub fn route(preds: &[u16], station: u16, out: &mut [u16]) -> RouteAnswer
+// The stations from the source to the station, written to the front of the output: how many there are, or none where
+// no route leads to the station.
+pub fn route(preds: &[u16], station: u16, out: &mut [u16]) -> Result<Option<usize>, RouteRefusal>
     ensures handed { returned result out.new ≡ route_call preds.now station out.old }
 {
-    if MOST < preds.len() {
-        return RouteAnswer::Refused(15);
-    }
     // With n 0 no station is below n.
-    if preds.len() <= station as usize {
-        return RouteAnswer::Refused(15);
+    if MOST < preds.len() || preds.len() <= station as usize {
+        return Err(RouteRefusal::Station);
     }
     if predecessor_at(preds, station) == NO_PRED {
-        return RouteAnswer::NoRoute;
+        return Ok(None);
     }
-    let count = count_stations(preds, station);
-    if count == 0 {
-        return RouteAnswer::Refused(16);
-    }
+    let count = count_stations(preds, station).ok_or(RouteRefusal::Chain)?;
     if out.len() < count {
-        return RouteAnswer::Refused(17);
+        return Err(RouteRefusal::Room);
     }
     write_stations(preds, station, count, out);
-    RouteAnswer::Found(count)
+    Ok(Some(count))
 }

@@ -5,7 +5,7 @@
 #![tactic(auto)]
 
 use cases_io::{read, read_array};
-use route::RouteAnswer;
+use route::RouteRefusal;
 use std::io;
 
 // What stands in the output before a call: no station of any case.
@@ -19,11 +19,11 @@ fn read_number<R: Input>(rt: &R) -> u16 {
     u16::from_le_bytes(read_array(rt))
 }
 
-fn print_answer<R: Print>(rt: &R, answer: RouteAnswer) -> io::Result<()> {
+fn print_answer<R: Print>(rt: &R, answer: Result<Option<usize>, RouteRefusal>) -> io::Result<()> {
     match answer {
-        RouteAnswer::Found(count) => print!(rt; "found {count}"),
-        RouteAnswer::NoRoute => print!(rt; "no route"),
-        RouteAnswer::Refused(number) => print!(rt; "refused {number}"),
+        Ok(Some(count)) => print!(rt; "found {count}"),
+        Ok(None) => print!(rt; "no route"),
+        Err(refusal) => print!(rt; "refused {}", refusal.number()),
     }
 }
 

@@ -1,5 +1,5 @@
 -- The replay of a list, reference by reference.
-use Rattle.common.proofs.Ground.{◌≡◌, refl, ◌∙◌, not, List, [], ℕ, suc, ◌+◌, ◌≤◌, ◌<◌, arith, add-one, zero-add, length}
+use Rattle.common.proofs.Ground.{◌≡◌, refl, not, List, [], ℕ, suc, ◌+◌, ◌≤◌, ◌<◌, arith, add-one, zero-add, length}
 use Rattle.common.proofs.Ground.{get_or, drop, drop-cons, drop_of_length-le}
 use Rattle.net.specs.Net.{one}
 use Rattle.image.specs.Image.{first_not_below}
@@ -33,11 +33,11 @@ module _ (pages : ℕ) (distances : List ℕ) (threshold frames : ℕ) (list : L
   -- After a reference, where the entries of the list are pages.
   pub replaying_next : length list ≤ first_not_below pages list → {older newer older_now newer_now : List ℕ}
       {last reads reads_now i : ℕ} → Replaying older newer last reads i → i < length list
-      → length older_now ≡ length older → length newer_now ≡ length newer
+      → (length older_now ≡ 256) × (length newer_now ≡ 256)
       → Referred pages distances threshold frames (get_or list i 0) last reads older newer reads_now older_now newer_now
       → Replaying older_now newer_now (get_or list i 0) reads_now (i + 1)
   unfolding reads_from
-  replaying_next entries {reads = reads} {i = i} r more long also referred =
+  replaying_next entries {reads = reads} {i = i} r more memory referred =
       let p = get_or list i 0 in
       let held = r.store.held in
       let step = referred held r.store.holding in
@@ -51,7 +51,7 @@ module _ (pages : ℕ) (distances : List ℕ) (threshold frames : ℕ) (list : L
           holding = step.0;
           some = r.store.some;
           row = below_before pages list i (omega arith);
-          memory = (long ∙ r.store.memory.0, also ∙ r.store.memory.1);
+          memory = memory;
         };
         few = omega (arith, step.1, r.few, one_most (not (holds p held)));
         all = rw (add-one i) (omega (arith, left, step.1, r.all));

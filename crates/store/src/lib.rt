@@ -7,27 +7,39 @@ ghost use Rattle.std.specs.Prelude.{◌≡◌, [], ◌≤◌, ◌<◌, length};
 ghost use Rattle.paging.specs.Store.{reads_from};
 ghost use Rattle.paging.specs.Promises.{ReplayPromised};
 ghost use Rattle.image.specs.Image.{first_not_below};
-ghost use Rattle.store.specs.Answers.{replay_in};
+ghost use Rattle.store.specs.Answers.{number_of, replay_in};
 ghost use Rattle.store.specs.Ring.{Table, is_fit};
 
+mod plant;
 mod references;
 mod ring;
 
 use image::{first_not_below, outside};
+use plant::Plant;
 use references::replay_list;
-use ring::{END, NONE};
 
 // The most frames of a store.
 const FRAMES: usize = 64;
 
-// Room for every page that a byte can name.
-const NAMED: usize = 256;
+// Why a replay is refused.
+#[derive(Clone, Copy, Debug, PartialEq, Eq)]
+pub enum ReplayRefusal {
+    // There are no pages, or more than a map has.
+    PageCount,
+    // The frames, the list or the table of distances do not fit the pages.
+    Unfit,
+}
 
-// What the call answers: the number of reads, or a refusal's number.
-#[derive(Clone, Copy)]
-pub enum ReplayAnswer {
-    Reads(usize),
-    Refused(u8),
+impl ReplayRefusal {
+    // The refusal's number in document 01.
+    pub fn number(self) -> u8
+        ensures { result ≡ number_of self }
+    {
+        match self {
+            ReplayRefusal::PageCount => 3,
+            ReplayRefusal::Unfit => 23,
+        }
+    }
 }
 
 // Whether every entry of the list is a page, and the table of distances is as long as it has to be.
@@ -35,10 +47,7 @@ fn fits(list: &[u8], pages: usize, distances: &[u32]) -> bool
     requires few { pages ≤ 240 }
     ensures value { result ≡ is_fit list.now pages distances.now }
 {
-    if first_not_below(list, pages) < list.len() {
-        return false;
-    }
-    distances.len() == pages * pages
+    list.len() <= first_not_below(list, pages) && distances.len() == pages * pages
 }
 
 // The reads of a store that holds nothing at first.
@@ -48,12 +57,13 @@ fn count_reads(list: &[u8], pages: usize, frames: usize, distances: &[u32], thre
     requires some { 0 < frames }
     ensures value { result ≡ reads_from pages distances.now threshold frames [] list.now }
 {
-    let mut older = [END; NAMED];
-    let mut newer = [NONE; NAMED];
-    newer[END as usize] = END;
-    replay_list(
-        list, pages, distances, threshold, frames, &mut older, &mut newer,
-    )
+    let plant = Plant {
+        pages,
+        distances,
+        threshold,
+        frames,
+    };
+    replay_list(list, &plant)
 }
 
 // Replays a list of pages in a store of some frames, with a table of the distances between pages, row by row, and a
@@ -64,17 +74,14 @@ pub fn replay(
     frames: usize,
     distances: &[u32],
     threshold: u32,
-) -> ReplayAnswer
+) -> Result<usize, ReplayRefusal>
     ensures promised { ReplayPromised list.now pages frames distances.now threshold (replay_in result) }
 {
     if outside(pages, 240) {
-        return ReplayAnswer::Refused(3);
+        return Err(ReplayRefusal::PageCount);
     }
-    if outside(frames, FRAMES) {
-        return ReplayAnswer::Refused(23);
+    if outside(frames, FRAMES) || !fits(list, pages, distances) {
+        return Err(ReplayRefusal::Unfit);
     }
-    if fits(list, pages, distances) {
-        return ReplayAnswer::Reads(count_reads(list, pages, frames, distances, threshold));
-    }
-    ReplayAnswer::Refused(23)
+    Ok(count_reads(list, pages, frames, distances, threshold))
 }

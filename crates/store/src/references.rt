@@ -3,93 +3,58 @@
 ghost use Rattle.std.specs.Prelude.{◌≡◌, [], ◌≤◌, ◌<◌, length};
 ghost use Rattle.image.specs.Image.{first_not_below};
 ghost use Rattle.paging.specs.Store.{reads_from};
-ghost use Rattle.store.specs.Ring.{Table, Ring, Store, Room, Referred};
+ghost use Rattle.store.specs.Ring.{Store, Room, Referred};
 
-use super::ring::{NONE, leaving_page, put_first, take_out};
+use super::plant::Plant;
+use super::ring::Links;
 
 // Makes room for a page that is to be read: if every frame holds a page, one leaves. Frames are free as long as there
 // were fewer reads.
-fn make_room(
-    reads: usize,
-    last: u8,
-    pages: usize,
-    distances: &[u32],
-    threshold: u32,
-    frames: usize,
-    older: &mut [u8],
-    newer: &mut [u8],
-)
-    requires table { Table pages distances.now }
-    requires store { Store pages frames last reads older.old newer.old }
-    ensures room { Room pages distances.now threshold frames last reads older.old newer.old
-        older.new newer.new }
+fn make_room(links: &mut Links, plant: &Plant<'_>, last: u8, reads: usize)
+    requires store { Store plant.now.pages plant.now.frames last reads links.old.older links.old.newer }
+    ensures room { Room plant.now.pages plant.now.distances.now plant.now.threshold plant.now.frames last reads
+        links.old.older links.old.newer links.new.older links.new.newer }
+    ensures memory { (length links.new.older ≡ 256) × (length links.new.newer ≡ 256) }
 {
-    if reads < frames {
+    if reads < plant.frames {
         return;
     }
-    let p = leaving_page(last, pages, distances, threshold, frames, newer);
-    take_out(p, older, newer);
-    newer[p as usize] = NONE;
+    let p = links.leaving_page(plant, last);
+    links.take_out(p);
+    links.forget(p);
 }
 
 // Refers to a page after so many reads, and gives the number of reads with it.
-fn refer(
-    p: u8,
-    reads: usize,
-    last: u8,
-    pages: usize,
-    distances: &[u32],
-    threshold: u32,
-    frames: usize,
-    older: &mut [u8],
-    newer: &mut [u8],
-) -> usize
-    requires table { Table pages distances.now }
-    requires store { Store pages frames last reads older.old newer.old }
-    requires page { p < pages }
+fn refer(links: &mut Links, plant: &Plant<'_>, p: u8, last: u8, reads: usize) -> usize
+    requires store { Store plant.now.pages plant.now.frames last reads links.old.older links.old.newer }
+    requires page { p < plant.now.pages }
     requires reads { reads < 18446744073709551615 }
-    ensures referred { Referred pages distances.now threshold frames p last reads older.old
-        newer.old result older.new newer.new }
+    ensures referred { Referred plant.now.pages plant.now.distances.now plant.now.threshold plant.now.frames p last
+        reads links.old.older links.old.newer result links.new.older links.new.newer }
+    ensures memory { (length links.new.older ≡ 256) × (length links.new.newer ≡ 256) }
 {
-    if newer[p as usize] != NONE {
-        take_out(p, older, newer);
-        put_first(p, older, newer);
+    if links.holds(p) {
+        links.take_out(p);
+        links.put_first(p);
         return reads;
     }
-    make_room(
-        reads, last, pages, distances, threshold, frames, older, newer,
-    );
-    put_first(p, older, newer);
+    make_room(links, plant, last, reads);
+    links.put_first(p);
     reads + 1
 }
 
-// The reads of a list by a store that holds nothing.
-pub fn replay_list(
-    list: &[u8],
-    pages: usize,
-    distances: &[u32],
-    threshold: u32,
-    frames: usize,
-    older: &mut [u8],
-    newer: &mut [u8],
-) -> usize
-    requires table { Table pages distances.now }
-    requires entries { length list.now ≤ first_not_below pages list.now }
-    requires some { 0 < frames }
-    requires nothing { Ring pages [] older.old newer.old }
-    requires memory { (length older.old ≡ 256) × (length newer.old ≡ 256) }
-    ensures value { result ≡ reads_from pages distances.now threshold frames [] list.now }
+// The reads of a list by a store that holds nothing at first.
+pub fn replay_list(list: &[u8], plant: &Plant<'_>) -> usize
+    requires entries { length list.now ≤ first_not_below plant.now.pages list.now }
+    ensures value { result ≡
+        reads_from plant.now.pages plant.now.distances.now plant.now.threshold plant.now.frames [] list.now }
 {
+    let mut links = Links::new();
     let mut last: u8 = 0;
     let mut reads: usize = 0;
-    let mut i: usize = 0;
-    while i < list.len() {
-        let p = list[i];
-        reads = refer(
-            p, reads, last, pages, distances, threshold, frames, older, newer,
-        );
+    for &p in list {
+        reads = refer(&mut links, plant, p, last, reads);
         last = p;
-        i += 1;
     }
     reads
 }

@@ -11,7 +11,7 @@
 use cases_io::{Part, bytes_at, change_bytes, run_cases};
 use image::bytes::{byte_at, part_of};
 use std::io;
-use store::{ReplayAnswer, replay};
+use store::{ReplayRefusal, replay};
 
 // The most bytes of a case: those of a full table, of 57,600 entries, and of lists of 79,600 entries together.
 const BYTES: usize = 310000;
@@ -41,13 +41,16 @@ fn print_call<R: Print>(rt: &R, bytes: &[u8], call: &[u8]) -> io::Result<()> {
     let table = &mut table[..(distances.count as usize).min(ENTRIES)];
     read_table(bytes, distances.from, table);
     let list = list.of(bytes);
-    print_answer(rt, replay(list, pages as usize, frames as usize, table, threshold))
+    print_answer(
+        rt,
+        replay(list, pages as usize, frames as usize, table, threshold),
+    )
 }
 
-fn print_answer<R: Print>(rt: &R, answer: ReplayAnswer) -> io::Result<()> {
+fn print_answer<R: Print>(rt: &R, answer: Result<usize, ReplayRefusal>) -> io::Result<()> {
     match answer {
-        ReplayAnswer::Reads(count) => println!(rt; "reads {count}"),
-        ReplayAnswer::Refused(number) => println!(rt; "refused {number}"),
+        Ok(count) => println!(rt; "reads {count}"),
+        Err(refusal) => println!(rt; "refused {}", refusal.number()),
     }
 }
 

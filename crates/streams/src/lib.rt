@@ -3,7 +3,8 @@
 
 #![tactic(auto)]
 
-ghost use Rattle.std.specs.Prelude.{◌≤◌, length};
+ghost use Rattle.std.specs.Prelude.{◌≡◌, ◌≤◌, length, take, OnOk};
+ghost use Rattle.std.specs.Io.KnownBytes.{Appends, Consumes};
 
 use std::io::{Error, ErrorKind};
 use std::{hint, io};
@@ -27,6 +28,8 @@ fn goes_on(error: &Error) -> bool {
 // Reads until the buffer is full, the input ends or a read fails.
 pub fn read_full<R: io::Read>(input: &mut R, buffer: &mut [u8]) -> Read
     ensures within { result.size ≤ length buffer.new }
+    ensures length { length buffer.new ≡ length buffer.old }
+    ensures read { Consumes (R.remaining input.old) (R.remaining input.new) (take result.size buffer.new) }
 {
     let mut size = 0;
     for _ in 0..u64::MAX {
@@ -49,7 +52,9 @@ pub fn read_full<R: io::Read>(input: &mut R, buffer: &mut [u8]) -> Read
 }
 
 // Writes all bytes and flushes them, or answers why it couldn't.
-pub fn write_all<W: io::Write>(output: &mut W, bytes: &[u8]) -> io::Result<()> {
+pub fn write_all<W: io::Write>(output: &mut W, bytes: &[u8]) -> io::Result<()>
+    ensures written { OnOk result (Appends (W.contents output.old) (W.contents output.new) bytes.now) }
+{
     let mut rest = bytes;
     for _ in 0..u64::MAX {
         if rest.is_empty() {

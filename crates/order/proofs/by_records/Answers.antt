@@ -1,6 +1,8 @@
 -- Both walks begin with all records left; what they have in common is passed, and the next records decide
 -- (proofs/Walking.antt).
-use Rattle.common.proofs.Ground.{refl, sym, ◌∙◌, arith}
+use Rattle.common.proofs.Ground.{refl, ap, sym, ◌∙◌, arith}
+use Rattle.order.specs.Answers.{order_in}
+use Rattle.order.proofs.Ordered.{by_next}
 use Rattle.image.specs.Bytes.{Bytes}
 use Rattle.roundtrip.specs.Records.{records_of}
 use Rattle.by_station.proofs.Standing.{standing_begin}
@@ -26,7 +28,7 @@ pass_stations-u-requires c =
 
 pub returns : goal.returns
 returns c = record {
-  value = c.by_next.ensures.value ∙
+  value = ap order_in c.cmp.ensures ∙ by_next _ _ ∙
       next_decides _ _ _ _ _ _ c.next_record-r.result c.next_record-s.result
       (c.next_record-r.ensures.next c.pass_stations-u.ensures.passed.walking.first_left c.pass_stations-u.ensures.passed.walking.first_stands)
       (c.next_record-s.ensures.next c.pass_stations-u.ensures.passed.walking.second_left c.pass_stations-u.ensures.passed.walking.second_stands) c.pass_stations-u.ensures.passed.part ∙
