@@ -1,7 +1,7 @@
 -- Commands at an offset: their lengths, what stands there if one is read, and each command by its code.
 use Rattle.common.proofs.Ground.{◌≡◌, ◌≢◌, refl, subst, not, ◌&&◌, ◌⊎◌, inl, inr, List, ℕ, zero, suc, ◌+◌, ◌*◌, ◌≤◌, ◌<◌}
 use Rattle.common.proofs.Ground.{arith, length, get_or, lit≤, eqb, ltb, leb, ltb-false, eqb-true, eqb-false, lt-leb}
-use Rattle.common.proofs.Ground.{le-ltb, lt-ltb, le-leb}
+use Rattle.common.proofs.Ground.{le-ltb}
 use Rattle.common.proofs.Cases.{by_pick}
 use lib.Dec.{T, leb→le}
 use lib.Ieee.Fits.{and_l, and_r}
@@ -112,11 +112,7 @@ module _ (page : List ℕ) (at : ℕ) where
         limit = λ e. refl;
       }))
 
-  pub command_past : length page ≤ at → command_at page at ≡ Fault 9
-  unfolding command_at
-  command_past h = simp (le-leb _ _ h)
-
-  -- each command by its code, where it ends within the page and where it does not
+  -- each command by its code, where it ends within the page
   pub command_move : code ≡ 2 → at + length_of 2 ≤ length page
       → command_at page at ≡ MoveTo (move_with page at 0)
   unfolding command_at
@@ -134,12 +130,3 @@ module _ (page : List ℕ) (at : ℕ) where
   pub command_end : code ≡ 0 → at + length_of 0 ≤ length page → command_at page at ≡ End
   unfolding command_at
   command_end e l = let h : at < length page = omega arith in simp (lt-leb _ _ h, e, le-ltb _ _ l)
-
-  pub command_cut : (n : ℕ) → n < 4 → at < length page → code ≡ n → length page < at + length_of n
-      → command_at page at ≡ Fault 9
-  unfolding command_at
-  command_cut n k h e l = let known : n ≤ 3 = omega arith in simp (lt-leb _ _ h, e, le-ltb _ _ known, lt-ltb _ _ l)
-
-  pub command_unknown : at < length page → 3 < code → command_at page at ≡ Fault 8
-  unfolding command_at
-  command_unknown h l = simp (lt-leb _ _ h, lt-ltb _ _ l)

@@ -77,6 +77,7 @@ fn move_with(page: &[u8], at: usize, limit: u16) -> Move
 
 // The command at an offset, or 8 or 9 as its fault. Each code is tested by itself, so that its length is known when the
 // program is compiled; `02`, the most frequent, comes first, then those below it, then those above.
+#[tactic(auto, unfolding(crate::specs::Commands::command_at))]
 pub fn command_at(page: &[u8], at: usize) -> Result<Command, Fault>
     ensures value { command_in result ≡ command_at page.now at }
 {

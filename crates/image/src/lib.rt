@@ -102,12 +102,14 @@ pub fn page_count(image: &[u8]) -> usize
     word_at(image, 2) as usize
 }
 
+#[tactic(auto, unfolding(crate::specs::Image::directory_of))]
 pub fn directory_of(image: &[u8]) -> &[u8]
     ensures part { result.now ≡ directory_of image.now }
 {
     part_of(image, 4, station_count(image))
 }
 
+#[tactic(auto, using(crate::proofs::Parts::page_short), unfolding(crate::specs::Image::page_bytes))]
 pub fn page_of(image: &[u8], p: u8) -> &[u8]
     ensures part { result.now ≡ page_bytes image.now p }
     ensures short { length result.now ≤ 256 }
@@ -138,6 +140,7 @@ pub fn outside(count: usize, limit: usize) -> bool
 }
 
 // Refusals 1 to 5, in this order.
+#[tactic(auto, unfolding(crate::specs::Image::heading_check))]
 pub fn check_heading(image: &[u8]) -> Result<(), Refusal>
     ensures outcome { outcome_of result ≡ heading_check image.now }
 {

@@ -2,7 +2,7 @@
 
 #![tactic(auto)]
 
-ghost use Rattle.std.specs.Prelude.{◌≡◌, ◌+◌, ◌<◌, length, set, leb};
+ghost use Rattle.std.specs.Prelude.{◌≡◌, ◌+◌, ◌<◌, ◌≤◌, length, set, leb};
 ghost use Rattle.common.specs.Pick.{pick};
 ghost use Rattle.layout.specs.Rows.{entry_of};
 
@@ -34,6 +34,17 @@ pub fn least_behind(m: Move) -> usize
     m.target as usize + 1
 }
 
+// A move laid out at entry k, with the row of station v ended at a given entry.
+fn lay(layout: &mut [u32], v: usize, k: usize, m: Move, end: usize)
+    requires station { 2048 + v < length layout.old }
+    requires inside { k < length layout.old }
+    requires entry { end ≤ 65536 }
+    ensures laid { layout.new ≡ set (set layout.old k (entry_of m.time m.target)) (2048 + v) end }
+{
+    layout[k] = entry_of(m);
+    layout[END_FROM + v] = end as u32;
+}
+
 // Lays out a move of station v at entry k, behind the moves that its row has, and gives the entry for the next one.
 pub fn lay_move(layout: &mut [u32], v: usize, k: usize, m: Move) -> usize
     requires station { 2048 + v < length layout.old }
@@ -43,8 +54,7 @@ pub fn lay_move(layout: &mut [u32], v: usize, k: usize, m: Move) -> usize
     ensures laid { layout.new
         ≡ set (set layout.old k (entry_of m.time m.target)) (2048 + v) (k + 1) }
 {
-    layout[k] = entry_of(m);
-    layout[END_FROM + v] = k as u32 + 1;
+    lay(layout, v, k, m, k + 1);
     k + 1
 }
 
@@ -54,10 +64,7 @@ fn behind_limited(k: usize, strip: u16, m: Move) -> usize
     requires entry { k < 65536 }
     ensures value { result ≡ pick (leb strip m.limit) (k + 1) k }
 {
-    if strip <= m.limit {
-        return k + 1;
-    }
-    k
+    if strip <= m.limit { k + 1 } else { k }
 }
 
 // Lays out a move with a limit likewise, if it is open to the strip. A closed one is written too, but its row ends
@@ -71,7 +78,6 @@ pub fn lay_limited(layout: &mut [u32], v: usize, k: usize, strip: u16, m: Move) 
         (2048 + v) (pick (leb strip m.limit) (k + 1) k) }
 {
     let behind = behind_limited(k, strip, m);
-    layout[k] = entry_of(m);
-    layout[END_FROM + v] = behind as u32;
+    lay(layout, v, k, m, behind);
     behind
 }

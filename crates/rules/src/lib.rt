@@ -81,7 +81,7 @@ fn judge_move(size: usize, after: usize, least: usize, m: Move) -> Result<Comman
 }
 
 // For `03`: these, then 18.
-#[tactic(auto, unfolding(crate::specs::Rules::judge_limited))]
+#[tactic(auto, unfolding(crate::specs::Rules::judge_limited, crate::specs::Rules::move_fault))]
 fn judge_limited(size: usize, after: usize, least: usize, m: Move) -> Result<Command, Fault>
     ensures value { command_in result ≡ judge_limited size after least m }
 {
@@ -93,7 +93,9 @@ fn judge_limited(size: usize, after: usize, least: usize, m: Move) -> Result<Com
     Ok(Command::Limited(m))
 }
 
-// The command at an offset, or its fault, of whichever page the slots due and past are.
+// The command at an offset, or its fault, of whichever page the slots due and past are. The directory and its places are
+// two parameters with a clause on both: docs/DECISIONS.md names this function and read_page with what they ask.
+#[tactic(auto, using(crate::proofs::Due::judged_end_by_slot), unfolding(crate::specs::Rules::judged_at, crate::specs::Rules::judge))]
 pub fn judged_at(
     directory: &[u8],
     places: &[u16],
