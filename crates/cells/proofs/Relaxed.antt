@@ -3,7 +3,8 @@ use Rattle.common.proofs.Ground.{◌≡◌, ◌∙◌, ◌≢◌, List, ℕ, ◌
 use Rattle.common.proofs.Ground.{get_or-set_other}
 use Rattle.queue.specs.Keys.{packed}
 use Rattle.layout.specs.Places.{slot_of}
-use Rattle.cells.specs.Cells.{Memory, memory, lowered_key, Relaxed, Room, PlacedAt}
+use Rattle.cells.specs.declared.Memory.{Memory}
+use Rattle.cells.specs.Cells.{memory, lowered_key, Relaxed, Room, PlacedAt}
 
 module _ {places : List ℕ} {u : ℕ} where
   -- A relaxed move keeps every table's room and the queue in order.

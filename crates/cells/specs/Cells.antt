@@ -5,16 +5,12 @@ use Rattle.common.specs.Pick.{pick}
 use Rattle.queue.specs.Keys.{packed}
 use Rattle.queue.specs.Queue.{Groups, Put}
 use Rattle.layout.specs.Places.{slot_of, page_at}
+use Rattle.cells.specs.declared.Memory.{Memory}
 
 -- "Per station the state has a time or none, a predecessor, a settled flag and a fresh flag": cost and predecessor of
 -- station v are packed in its cell, entry v, which is nobody's where v has no time and 0 for the source. In its slot
 -- stands the key by which it waits, nobody's where it does not: in the DF search a station waits if it has a time and
 -- is not fresh, in the plain one if it is not settled. The queue has the least of these keys for each page.
-pub record Memory : Type 0 where
-  pub cells : List ℕ
-  pub waiting : List ℕ
-  pub queue : List ℕ
-
 abbrev pub memory : List ℕ → List ℕ → List ℕ → Memory
 memory cells waiting queue = record { cells = cells; waiting = waiting; queue = queue }
 

@@ -5,13 +5,14 @@
 // proofs/Cells.antt; what a search cites of a move relaxed, in proofs/Relaxed.antt.
 #![tactic(auto)]
 
-ghost use Rattle.std.specs.Prelude.{◌≡◌, ◌/◌, ◌<◌, min, ltb, length, get_or, set};
+ghost use Rattle.std.specs.Prelude.{◌≡◌, ◌/◌, ◌<◌, min, ltb, length, get_or, set, replicate};
+ghost use Rattle.common.specs.Numbers.{nobody};
 ghost use Rattle.queue.specs.Keys.{packed};
 ghost use Rattle.cells.specs.Cells.{memory, most_cost, lowered_key, Relaxed, Room, PlacedAt};
 
 use common::NOBODY;
 use layout::places::{STATIONS, page_at, slot_of};
-use queue::{lesser, lower_leaf};
+use queue::{QUEUE, lower_leaf};
 
 // A cost and a station in one number: a cell has a station's predecessor beside its cost, a key the station itself.
 fn pack(cost: u64, station: usize) -> u64
@@ -48,57 +49,70 @@ fn lowered_cell(cell: u64, sum: u64, u: usize) -> u64
     requires cost { sum < most_cost }
     ensures value { result ≡ min cell (packed sum u) }
 {
-    lesser(cell, pack(sum, u))
+    cell.min(pack(sum, u))
 }
 
-// A move leads from u to v, and by it v would cost `sum`: its cell becomes the lesser of itself and the cell of `sum`
-// and u, and where that lowers its cost, v waits by its new key, which is handed back. No branch, as the key of nobody
-// changes nothing.
-fn relax_cell(
-    cells: &mut [u64],
-    waiting: &mut [u64],
-    u: usize,
-    v: usize,
-    slot: usize,
-    sum: u64,
-) -> u64
-    requires from { u < 2048 }
-    requires to { v < 2048 }
-    requires cost { sum < most_cost }
-    requires cell { v < length cells.old }
-    requires slot { slot < length waiting.old }
-    ensures key { result ≡ lowered_key (get_or cells.old v 0) sum v }
-    ensures cell { cells.new
-        ≡ set cells.old v (min (get_or cells.old v 0) (packed sum u)) }
-    ensures waits { waiting.new
-        ≡ set waiting.old slot (min (get_or waiting.old slot 0) result) }
-{
-    let old = cells[v];
-    let key = lowered_key(old, sum, v);
-    cells[v] = lowered_cell(old, sum, u);
-    waiting[slot] = lesser(waiting[slot], key);
-    key
+// The working memory: a cell for each station, a waiting key for each slot, and the queue of pages.
+#[derive(Drop)]
+pub struct Memory {
+    pub cells: [u64; STATIONS],
+    pub waiting: [u64; STATIONS],
+    pub queue: [u64; QUEUE],
 }
 
-// The same, and the queue is told of the key. A search begins by it too: its source is offered cost 0.
-pub fn offer(
-    cells: &mut [u64],
-    waiting: &mut [u64],
-    queue: &mut [u64],
-    places: &[u16],
-    u: usize,
-    v: usize,
-    sum: u64,
-)
-    requires from { u < 2048 }
-    requires to { v < 2048 }
-    requires cost { sum < most_cost }
-    requires room { Room places.now (memory cells.old waiting.old queue.old) }
-    requires placed { PlacedAt places.now v }
-    ensures relaxed { Relaxed places.now u v sum
-        (memory cells.old waiting.old queue.old)
-        (memory cells.new waiting.new queue.new) }
-{
-    let key = relax_cell(cells, waiting, u, v, slot_of(places, v), sum);
-    lower_leaf(queue, page_at(places, v), key);
+impl Memory {
+    // In which nobody has a time, and nobody waits.
+    pub fn new() -> Memory
+        ensures empty { result ≡ memory (replicate 2048 nobody)
+            (replicate 2048 nobody) (replicate 272 nobody) }
+    {
+        Memory {
+            cells: [NOBODY; STATIONS],
+            waiting: [NOBODY; STATIONS],
+            queue: [NOBODY; QUEUE],
+        }
+    }
+
+    // The cells, of as many stations as a map can have.
+    pub fn cells(&self) -> &[u64]
+        ensures value { result.now ≡ self.now.cells }
+        ensures size { length result.now ≡ 2048 }
+    {
+        &self.cells
+    }
+
+    // A move leads from u to v, and by it v would cost `sum`: its cell becomes the lesser of itself and the cell of
+    // `sum` and u, and where that lowers its cost, v waits by its new key, which is handed back. No branch, as the key
+    // of nobody changes nothing.
+    fn relax_cell(&mut self, u: usize, v: usize, slot: usize, sum: u64) -> u64
+        requires from { u < 2048 }
+        requires to { v < 2048 }
+        requires cost { sum < most_cost }
+        requires slot { slot < 2048 }
+        ensures key { result ≡ lowered_key (get_or self.old.cells v 0) sum v }
+        ensures cell { self.new.cells
+            ≡ set self.old.cells v (min (get_or self.old.cells v 0) (packed sum u)) }
+        ensures waits { self.new.waiting
+            ≡ set self.old.waiting slot (min (get_or self.old.waiting slot 0) result) }
+        ensures queue { self.new.queue ≡ self.old.queue }
+    {
+        let old = self.cells[v];
+        let key = lowered_key(old, sum, v);
+        self.cells[v] = lowered_cell(old, sum, u);
+        self.waiting[slot] = self.waiting[slot].min(key);
+        key
+    }
+
+    // The same, and the queue is told of the key. A search begins by it too: its source is offered cost 0.
+    pub fn offer(&mut self, places: &[u16], u: usize, v: usize, sum: u64)
+        requires from { u < 2048 }
+        requires to { v < 2048 }
+        requires cost { sum < most_cost }
+        requires room { Room places.now self.old }
+        requires placed { PlacedAt places.now v }
+        ensures relaxed { Relaxed places.now u v sum self.old self.new }
+    {
+        let key = self.relax_cell(u, v, slot_of(places, v), sum);
+        lower_leaf(&mut self.queue, page_at(places, v), key);
+    }
 }

@@ -14,7 +14,8 @@ use Rattle.image.specs.Image.{directory_of, heading_check, accepted}
 use Rattle.image.proofs.Heading.{formed}
 use Rattle.image.proofs.Parts.{bytes_directory}
 use Rattle.queue.proofs.Groups.{least_empty, empty_groups}
-use Rattle.cells.specs.Cells.{Memory, memory, Room, Relaxed, most_cost, PlacedAt}
+use Rattle.cells.specs.declared.Memory.{Memory}
+use Rattle.cells.specs.Cells.{memory, Room, Relaxed, most_cost, PlacedAt}
 use Rattle.cells.proofs.Relaxed.{relaxed_room, relaxed_cell, relaxed_other, relaxed_waits, relaxed_waits_other}
 use Rattle.reference.specs.declared.Query.{Query}
 use Rattle.work.specs.Board.{Serving, frame_of, Placing, StationIs}

@@ -9,10 +9,11 @@ use Rattle.net.specs.Search.{start, iter}
 use Rattle.net.specs.Run.{search_of, unmarked, first_waiting}
 use Rattle.net.proofs.Steps.Waiting.{nobody_refused}
 use Rattle.net.proofs.Runs.{run_is_search, run_stops}
-use Rattle.cells.specs.Cells.{Memory}
+use Rattle.cells.specs.declared.Memory.{Memory}
 use Rattle.reference.specs.declared.Query.{Query}
-use Rattle.reference.specs.declared.Reference.TheVariants.{NobodyWaits, Made, Bad}
-use Rattle.engine.specs.declared.Ended.TheVariants.{Over, BadPage}
+use Rattle.std.specs.Prelude.{Some, None, Ok, Err}
+use Rattle.image.specs.declared.BadPage.{BadPage}
+use Rattle.image.specs.Image.{fault_number}
 use Rattle.map.specs.Map.{map_frame}
 use Rattle.work.specs.Board.{Serving}
 use Rattle.work.specs.Hand.{state_after}
@@ -52,7 +53,7 @@ module _ (query : Query) {k : ℕ} {image places layout before list : List ℕ} 
       )
 
   pub run_more : {p : ℕ} {layout' list' : List ℕ} {m' : Memory}
-      → Referred query image k places layout' m' list list' (Made p)
+      → Referred query image k places layout' m' list list' (Ok (Some p))
       → RunSoFar query image (k + 1) places layout' m' before list'
   run_more (stands, known, next) = rw (add-one k) (record {
     underway = record {
@@ -72,16 +73,16 @@ module _ (query : Query) {k : ℕ} {image places layout before list : List ℕ} 
       let ok = g.underway.stands.board.placing.sound in
       ap unmarked (run_stops ok q.df j none) ∙ sym (run_is_search ok q.df)
 
-  pub nobody_ends : {list' : List ℕ} {m' : Memory} → Referred query image k places layout m' list list' NobodyWaits
-      → EndedOn query image m'.cells before list' (Over k)
+  pub nobody_ends : {list' : List ℕ} {m' : Memory} → Referred query image k places layout m' list list' (Ok None)
+      → EndedOn query image m'.cells before list' (record { count = k; outcome = Ok tt })
   nobody_ends {list'} {m'} (none, stands, same) =
-      subst (λ t. EndedAs F q.source t m'.cells before list' (Over k)) (ended k none)
+      subst (λ t. EndedAs F q.source t m'.cells before list' k (Ok tt)) (ended k none)
       (stands.going, (g.listed.0, same ∙ g.listed.1), λ v h. (stands.board.station v h).0)
 
-  pub bad_ends : (cells : List ℕ) {number p offset : ℕ} {list' : List ℕ}
-      → Referred query image k places layout m list list' (Bad number p offset)
-      → EndedOn query image cells before list' (BadPage number p offset (k + 1))
-  bad_ends cells {number} {p} {offset} {list'} (halted, next) = rw (add-one k)
-      (subst (λ t. EndedAs F q.source t cells before list' (BadPage number p offset (suc k)))
-      (ended (suc k) (nobody_refused q.df F (state_after q (suc k)) number p offset halted))
+  pub bad_ends : (cells : List ℕ) (bad : BadPage) {list' : List ℕ}
+      → Referred query image k places layout m list list' (Err bad)
+      → EndedOn query image cells before list' (record { count = k + 1; outcome = Err bad })
+  bad_ends cells bad {list'} (halted, next) = rw (add-one k)
+      (subst (λ t. EndedAs F q.source t cells before list' (suc k) (Err bad))
+      (ended (suc k) (nobody_refused q.df F (state_after q (suc k)) (fault_number bad.fault) bad.page bad.offset halted))
       (halted, listed_more next))

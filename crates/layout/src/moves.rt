@@ -14,22 +14,16 @@ pub const LAYOUT: usize = 17152;
 // As many moves as the 256 bytes of a page can have.
 pub const PAGE_MOVES: usize = 51;
 
-fn wide(entry: u32) -> usize
-    ensures value { result ≡ entry }
-{
-    entry as usize
-}
-
 pub fn begin_of(layout: &[u32], v: usize) -> usize
     requires inside { v < length layout.now }
     ensures value { result ≡ begin_of layout.now v }
 {
-    wide(layout[v])
+    layout[v] as usize
 }
 
 pub fn end_of(layout: &[u32], v: usize) -> usize
     requires inside { 2048 + v < length layout.now }
     ensures value { result ≡ end_of layout.now v }
 {
-    wide(layout[END_FROM + v])
+    layout[END_FROM + v] as usize
 }

@@ -17,18 +17,14 @@ const GROUP: usize = 16;
 
 pub const QUEUE: usize = 272;
 
-// Compiled to a conditional move: relaxing and choosing have no branch that a processor could guess wrongly.
-pub fn lesser(a: u64, b: u64) -> u64
-    ensures value { result ≡ min a b }
+// The least of four keys. `min` is compiled to a conditional move: relaxing and choosing have no branch that a processor
+// could guess wrongly.
+fn least_of(keys: &[u64; 4]) -> u64
+    ensures value { result
+        ≡ min (min (get_or keys.now 0 0) (get_or keys.now 1 0))
+        (min (get_or keys.now 2 0) (get_or keys.now 3 0)) }
 {
-    if b < a { b } else { a }
-}
-
-// The least of four keys.
-fn least_of(a: u64, b: u64, c: u64, d: u64) -> u64
-    ensures value { result ≡ min (min a b) (min c d) }
-{
-    lesser(lesser(a, b), lesser(c, d))
+    keys[0].min(keys[1]).min(keys[2].min(keys[3]))
 }
 
 // The least of the keys from `lo` up to `hi`. Four of them are compared in a turn, so that the least so far waits for
@@ -38,16 +34,13 @@ pub fn least_between(keys: &[u64], lo: usize, hi: usize) -> u64
     requires inside { hi ≤ length keys.now }
     ensures least { result ≡ least_in (take (hi - lo) (drop lo keys.now)) }
 {
+    let (fours, rest) = keys[lo..hi].as_chunks::<4>();
     let mut least = NOBODY;
-    let mut i = lo;
-    while i + 3 < hi {
-        let four = least_of(keys[i], keys[i + 1], keys[i + 2], keys[i + 3]);
-        least = lesser(least, four);
-        i += 4;
+    for four in fours {
+        least = least.min(least_of(four));
     }
-    while i < hi {
-        least = lesser(least, keys[i]);
-        i += 1;
+    for key in rest {
+        least = least.min(*key);
     }
     least
 }
@@ -59,8 +52,8 @@ pub fn lower_leaf(queue: &mut [u64], p: usize, key: u64)
     ensures lowered { Put queue.old p (min (get_or queue.old p 0) key) queue.new }
 {
     let group = LEAVES + p / GROUP;
-    queue[p] = lesser(queue[p], key);
-    queue[group] = lesser(queue[group], key);
+    queue[p] = queue[p].min(key);
+    queue[group] = queue[group].min(key);
 }
 
 // The leaf of page p becomes `key`, which may be greater than it was.

@@ -17,7 +17,7 @@ use Rattle.layout.specs.Places.{page_at}
 use Rattle.layout.specs.Rows.{entry_of}
 use Rattle.queue.specs.Keys.{least_in}
 use Rattle.queue.specs.Queue.{leaves_of}
-use Rattle.cells.specs.Cells.{Memory}
+use Rattle.cells.specs.declared.Memory.{Memory}
 use Rattle.reference.specs.declared.Query.{Query}
 use Rattle.work.specs.Board.{least_on, chosen, Serving, frame_of}
 use Rattle.map.specs.Map.{map_frame, net_move, offered, map_page}

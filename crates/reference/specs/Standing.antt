@@ -1,19 +1,17 @@
 -- How the engine stands between references: what it has laid out of the pages read so far, its working memory as the
 -- state of the net's run, and what one reference more comes to.
-use Rattle.std.specs.Prelude.{◌≡◌, List, [], ◌∷◌, ◌++◌, ℕ, suc, ◌≤◌, ◌<◌, length, get_or, set}
+use Rattle.std.specs.Prelude.{◌≡◌, List, [], ◌∷◌, ◌++◌, ℕ, suc, ◌≤◌, ◌<◌, length, get_or, set, Option, Some, None, Result, Ok, Err}
 use Rattle.net.specs.declared.Choice.TheVariants.{Nobody}
 use Rattle.net.specs.Search.{refused}
 use Rattle.net.specs.Run.{first_waiting}
 use Rattle.commands.specs.declared.Move.{Move}
-use Rattle.image.specs.Image.{directory_of, page_count, heading_check, accepted}
+use Rattle.image.specs.Image.{directory_of, page_count, heading_check, accepted, fault_number}
+use Rattle.image.specs.declared.BadPage.{BadPage}
 use Rattle.page.specs.Reading.{Verdict, Good, Bad, Leaving, good, bad, reading_of}
 use Rattle.page.specs.Laying.{PageLaid}
 use Rattle.layout.specs.Rows.{end_of}
-use Rattle.cells.specs.Cells.{Memory}
+use Rattle.cells.specs.declared.Memory.{Memory}
 use Rattle.reference.specs.declared.Query.{Query}
-use Rattle.reference.specs.declared.Reference.{Reference}
-use Rattle.reference.specs.declared.Reference.TheVariants.{NobodyWaits, Made}
-use Rattle.reference.specs.declared.Reference.TheVariants.{Bad as BadReference}
 use Rattle.map.specs.Map.{map_page}
 use Rattle.work.specs.Board.{Serving, frame_of}
 use Rattle.work.specs.Hand.{state_after, Stands}
@@ -66,10 +64,11 @@ module _ (query : Query) (image : List ℕ) where
   q = serving query image
 
   -- What reference k + 1 comes to: nobody was waiting; or page p was referred to, which is listed, and good or bad.
-  abbrev pub Referred : ℕ → List ℕ → List ℕ → Memory → List ℕ → List ℕ → Reference → Type 0
-  Referred k places layout m before list NobodyWaits =
+  abbrev pub Referred : ℕ → List ℕ → List ℕ → Memory → List ℕ → List ℕ → Result (Option ℕ) BadPage → Type 0
+  Referred k places layout m before list (Ok None) =
       (first_waiting q.df (frame_of q) (state_after q k) ≡ Nobody) × Stands q k places m × (list ≡ before)
-  Referred k places layout m before list (Made p) =
+  Referred k places layout m before list (Ok (Some p)) =
       Stands q (suc k) places m × Known query.strip image layout × Lists q k p before list
-  Referred k places layout m before list (BadReference number p offset) =
-      ((state_after q (suc k)).halt ≡ refused number p offset) × Lists q k p before list
+  Referred k places layout m before list (Err at_fault) =
+      ((state_after q (suc k)).halt ≡ refused (fault_number at_fault.fault) at_fault.page at_fault.offset)
+      × Lists q k at_fault.page before list

@@ -5,35 +5,27 @@
 
 ghost use Rattle.std.specs.Prelude.{◌≡◌};
 ghost use Rattle.image.specs.Image.{heading_check, accepted};
-ghost use Rattle.cells.specs.Cells.{memory};
 ghost use Rattle.net.specs.Run.{turn_limit};
 ghost use Rattle.map.specs.Map.{map_frame};
 ghost use Rattle.reference.specs.Standing.{Underway, Referred};
 
 mod pages;
 
+use cells::Memory;
 use common::NOBODY;
-use image::{page_count, station_count};
+use image::{BadPage, page_count, station_count};
 use layout::places::page_at;
-use page::Verdict;
 use pages::fetch;
 use queue::top;
 use work::{station_of, work_page};
 
-// What a search is asked: DF or plain, from where, and for a strip of which length, in decimetres.
+// What a search is asked: DF or plain, from where, and for a strip of which length, in decimetres. `df` is a flag, as the
+// definitions of both searches have it: two names in its place would be turned into it in every contract.
 #[derive(Clone, Copy)]
 pub struct Query {
     pub df: bool,
     pub source: u16,
     pub strip: u16,
-}
-
-// What a reference came to: nobody was waiting, a page was referred to and worked on, or it was bad.
-#[derive(Clone, Copy)]
-pub enum Reference {
-    NobodyWaits,
-    Made(u8),
-    Bad { number: u8, page: u8, offset: usize },
 }
 
 // The turns that a page in hand gets: one in the plain search, in the DF search more than it has stations.
@@ -48,42 +40,32 @@ fn turns_of(df: bool, image: &[u8]) -> usize
     1
 }
 
-// One reference: the page of the station of least waiting key is listed, fetched and worked on.
+// One reference: the page of the station of least waiting key is listed, fetched and worked on, and handed back. None if
+// nobody was waiting, and a page at fault ends the search.
 pub fn refer(
     query: Query,
     image: &[u8],
     count: usize,
     places: &[u16],
     layout: &mut [u32],
-    cells: &mut [u64],
-    waiting: &mut [u64],
-    queue: &mut [u64],
+    memory: &mut Memory,
     list: &mut [u8],
-) -> Reference
+) -> Result<Option<u8>, BadPage>
     requires underway { Underway query image.now count places.now
-        layout.old (memory cells.old waiting.old queue.old) list.old }
+        layout.old memory.old list.old }
     ensures referred { Referred query image.now count places.now
-        layout.new (memory cells.new waiting.new queue.new)
-        list.old list.new result }
+        layout.new memory.new list.old list.new result }
 {
-    let key = top(queue, page_count(image));
+    let key = top(&memory.queue, page_count(image));
     if NOBODY <= key {
-        return Reference::NobodyWaits;
+        return Ok(None);
     }
     let u = station_of(key);
     let p = page_at(places, u);
     let page = p as u8;
     list[count] = page;
-    match fetch(image, page, u, places, query.strip, layout) {
-        Verdict::Good => {
-            let turns = turns_of(query.df, image);
-            work_page(p, turns, key, places, layout, cells, waiting, queue);
-            Reference::Made(page)
-        }
-        Verdict::Bad { number, offset } => Reference::Bad {
-            number,
-            page,
-            offset,
-        },
-    }
+    fetch(image, page, u, places, query.strip, layout).map_err(|first| first.on_page(page))?;
+    let turns = turns_of(query.df, image);
+    work_page(p, turns, key, places, layout, memory);
+    Ok(Some(page))
 }

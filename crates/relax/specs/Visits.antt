@@ -4,7 +4,8 @@ use Rattle.common.specs.Numbers.{nobody}
 use Rattle.common.specs.Costs.{cost}
 use Rattle.layout.specs.Places.{slot_of}
 use Rattle.layout.specs.Rows.{end_of, row_of}
-use Rattle.cells.specs.Cells.{Memory, memory, Relaxed, PlacedAt}
+use Rattle.cells.specs.declared.Memory.{Memory}
+use Rattle.cells.specs.Cells.{memory, Relaxed, PlacedAt}
 
 -- The cost of a move of the greatest time that a row can hold, 32 bits less those of the target.
 abbrev pub longest : ℕ

@@ -1,17 +1,17 @@
 -- What a search is asked, and what it hands back: its reply and the five lent tables (01, "The two searches" and "What
 -- is turned down"; C-14).
-use Rattle.std.specs.Prelude.{Bool, ◌||◌, List, ℕ, length, take, replicate, ltb, leb}
+use Rattle.std.specs.Prelude.{Bool, ◌||◌, List, ℕ, length, take, replicate, ltb, leb, Result, Ok, Err}
 use Rattle.common.specs.Numbers.{no_time, no_moves, no_pred}
 use Rattle.common.specs.Pick.{pick}
 use Rattle.common.specs.Window.{placed}
 use Rattle.net.specs.Net.{Frame, Page}
 use Rattle.net.specs.Search as net
 use Rattle.net.specs.Search.{State, Halt, going, time_table, move_table, reached}
-use Rattle.image.specs.Image.{Outcome, accepted, refused, nowhere, on_page, place_of, station_count, heading_check}
-use Rattle.image.specs.Image.{after_heading}
+use Rattle.image.specs.Image.{Outcome, accepted, refused, nowhere, on_page, number_of, place_of, station_count}
+use Rattle.image.specs.Image.{heading_check, after_heading}
 use Rattle.map.specs.Map.{map_frame, map_page}
-use Rattle.reply.specs.declared.Answer.{Answer}
-use Rattle.reply.specs.declared.Answer.TheVariants.{Accepted, Refused}
+use Rattle.reply.specs.declared.Found.{Found}
+use Rattle.reply.specs.declared.TurnedDown.{TurnedDown}
 
 -- "Each takes image, source"; C-11: "Searches take a length", that of a strip. What a search is asked; and the same of
 -- another image, or for another length.
@@ -79,11 +79,11 @@ abbrev pub handed : Reply → Lent → Handed
 handed r t = record { reply = r; tables = t }
 
 -- The code's answer in this paper's numbers and values; and what a call handed back, with the tables as it left them.
-abbrev pub reply_of : Answer → Reply
-reply_of (Accepted count reached) = reply accepted count reached
-reply_of (Refused refusal count) = reply (refused refusal.number (place_of refusal.place)) count 0
+abbrev pub reply_of : Result Found TurnedDown → Reply
+reply_of (Ok found) = reply accepted found.count found.reached
+reply_of (Err down) = reply (refused (number_of down.refusal) (place_of down.refusal)) down.count 0
 
-abbrev pub returned : Answer → List ℕ → List ℕ → List ℕ → List ℕ → List ℕ → Handed
+abbrev pub returned : Result Found TurnedDown → List ℕ → List ℕ → List ℕ → List ℕ → List ℕ → Handed
 returned answer t w p m l = handed (reply_of answer) (lent t w p m l)
 
 -- "Of times, predecessors and marks the first N entries are written and no others, here and at a page refusal: times

@@ -6,42 +6,44 @@
 ghost use Rattle.std.specs.Prelude.{◌≡◌, ◌||◌, ltb};
 ghost use Rattle.net.specs.Run.{search_of};
 ghost use Rattle.image.specs.Image.{accepted, outcome_of};
-ghost use Rattle.reply.specs.Reply.{lent, returned, six_or_seven, call_check, on_map};
-ghost use Rattle.reply.specs.Answering.{asked_by};
+ghost use Rattle.reply.specs.Reply.{lent, reply_of, returned, six_or_seven, call_check, on_map};
+ghost use Rattle.reply.specs.Answering.{asked_by, before_pages, reply_to};
 
-mod answers;
-
-use answers::{answer_of, is_over};
-use common::NOBODY;
-use image::{Checked, Place, Refusal, check_heading, refuse, station_count};
+use cells::Memory;
+use engine::Ended;
+use image::{Refusal, check_heading, station_count};
 use reference::Query;
 use tables::finish;
 
-// What a search answers: the number of entries of the page list, with the number of stations reached or the refusal. At
-// 1 to 7 the list has no entry; at a page refusal the bad page is its last.
-#[derive(Clone, Copy)]
-pub enum Answer {
-    Accepted { count: usize, reached: usize },
-    Refused { refusal: Refusal, count: usize },
+// What a search that is accepted answers: the number of entries of the page list, and of stations reached.
+#[derive(Clone, Copy, Debug, PartialEq, Eq)]
+pub struct Found {
+    pub count: usize,
+    pub reached: usize,
+}
+
+// What one that is refused answers: the refusal, and the entries of the page list. At 1 to 7 it has none; at a page
+// refusal the bad page is its last.
+#[derive(Clone, Copy, Debug, PartialEq, Eq)]
+pub struct TurnedDown {
+    pub refusal: Refusal,
+    pub count: usize,
+}
+
+// A refusal before any page.
+impl From<Refusal> for TurnedDown {
+    ghost from_gives = { λ refusal down. down ≡ before_pages refusal };
+
+    fn from(refusal: Refusal) -> TurnedDown {
+        TurnedDown { refusal, count: 0 }
+    }
 }
 
 // Whether a table has no entry for some of n stations: 7.
 fn too_short(n: usize, times: usize, moves: usize, preds: usize, marks: usize, list: usize) -> bool
     ensures value { result ≡ ltb times n || (ltb moves n || (ltb preds n || (ltb marks n || ltb list n))) }
 {
-    if times < n {
-        return true;
-    }
-    if moves < n {
-        return true;
-    }
-    if preds < n {
-        return true;
-    }
-    if marks < n {
-        return true;
-    }
-    list < n
+    times < n || moves < n || preds < n || marks < n || list < n
 }
 
 // 6 and 7 for a map of n stations, of the source and the tables' lengths.
@@ -53,17 +55,17 @@ fn check_tables(
     preds: usize,
     marks: usize,
     list: usize,
-) -> Checked
+) -> Result<(), Refusal>
     ensures outcome { outcome_of result ≡
         six_or_seven n source (ltb times n || (ltb moves n || (ltb preds n || (ltb marks n || ltb list n)))) }
 {
-    if n <= source as usize {
-        return refuse(6, Place::Nowhere);
+    if n <= usize::from(source) {
+        return Err(Refusal::Source);
     }
     if too_short(n, times, moves, preds, marks, list) {
-        return refuse(7, Place::Nowhere);
+        return Err(Refusal::TableTooShort);
     }
-    Checked::Whole
+    Ok(())
 }
 
 // Refusals 1 to 7, in this order.
@@ -75,27 +77,40 @@ pub fn check_call(
     preds: &[u16],
     marks: &[u8],
     list: &[u8],
-) -> Checked
+) -> Result<(), Refusal>
     ensures outcome { outcome_of result ≡ call_check (asked_by query image.now)
         (lent times.now moves.now preds.now
         marks.now list.now) }
 {
-    match check_heading(image) {
-        Checked::Whole => check_tables(
-            station_count(image),
-            query.source,
-            times.len(),
-            moves.len(),
-            preds.len(),
-            marks.len(),
-            list.len(),
-        ),
-        Checked::Refused(refusal) => Checked::Refused(refusal),
+    check_heading(image)?;
+    check_tables(
+        station_count(image),
+        query.source,
+        times.len(),
+        moves.len(),
+        preds.len(),
+        marks.len(),
+        list.len(),
+    )
+}
+
+// What a search answers, by how the engine's search ended.
+fn answer_of(ended: Ended, reached: usize) -> Result<Found, TurnedDown>
+    ensures value { reply_of result ≡ reply_to ended.count ended.outcome reached }
+{
+    let count = ended.count;
+    match ended.outcome {
+        Ok(()) => Ok(Found { count, reached }),
+        Err(bad) => Err(TurnedDown {
+            refusal: Refusal::from(bad),
+            count,
+        }),
     }
 }
 
 // The search of a call that 1 to 7 do not refuse: the engine's, on cells of its own and the list lent, written into the
-// first N entries of the other tables.
+// first N entries of the other tables. The tables stay five slices, as C lends them: a struct of several `&mut` slices
+// makes each function promise that every one of them is still the slice that was lent.
 pub fn on_map(
     query: Query,
     image: &[u8],
@@ -104,7 +119,7 @@ pub fn on_map(
     preds: &mut [u16],
     marks: &mut [u8],
     list: &mut [u8],
-) -> Answer
+) -> Result<Found, TurnedDown>
     requires passed { call_check (asked_by query image.now)
         (lent times.old moves.old preds.old marks.old list.old) ≡ accepted }
     ensures outcome { returned result times.new moves.new preds.new
@@ -113,13 +128,15 @@ pub fn on_map(
         (lent times.old moves.old preds.old
         marks.old list.old) }
 {
-    let mut cells = [NOBODY; 2048];
-    let ended = engine::search(query, image, &mut cells, list);
+    let mut memory = Memory::new();
+    let ended = engine::search(query, image, &mut memory, list);
     let n = station_count(image);
-    let over = is_over(ended);
+    let shown = match ended.outcome {
+        Ok(()) => Some(memory.cells()),
+        Err(_) => None,
+    };
     let reached = finish(
-        over,
-        &cells,
+        shown,
         &mut times[..n],
         &mut moves[..n],
         &mut preds[..n],

@@ -10,9 +10,8 @@ ghost use Rattle.reply.specs.Reply.{asked, lent, returned, searched};
 ghost use Rattle.reply.specs.Answering.{asked_by};
 ghost use Rattle.search.specs.Promises.{Promised, DfPromised};
 
-use image::Checked;
 use reference::Query;
-use reply::{Answer, check_call, on_map};
+use reply::{Found, TurnedDown, check_call, on_map};
 
 // Either search.
 fn search(
@@ -23,20 +22,19 @@ fn search(
     preds: &mut [u16],
     marks: &mut [u8],
     list: &mut [u8],
-) -> Answer
+) -> Result<Found, TurnedDown>
     ensures outcome { returned result times.new moves.new preds.new
         marks.new list.new ≡
         searched (search_of query.df) (asked_by query image.now)
         (lent times.old moves.old preds.old
         marks.old list.old) }
 {
-    match check_call(query, image, times, moves, preds, marks, list) {
-        Checked::Whole => on_map(query, image, times, moves, preds, marks, list),
-        Checked::Refused(refusal) => Answer::Refused { refusal, count: 0 },
-    }
+    check_call(query, image, times, moves, preds, marks, list)?;
+    on_map(query, image, times, moves, preds, marks, list)
 }
 
-// The plain search: Dijkstra's.
+// The plain search: Dijkstra's. It and `df` stay two functions, as `df` promises the list of demand 3 besides
+// (specs/Promises.antt, `DfPromised`), and C calls both.
 pub fn plain(
     image: &[u8],
     source: u16,
@@ -46,7 +44,7 @@ pub fn plain(
     preds: &mut [u16],
     marks: &mut [u8],
     list: &mut [u8],
-) -> Answer
+) -> Result<Found, TurnedDown>
     ensures promised { Promised plain_search (asked image.now source strip)
         (lent times.old moves.old preds.old
         marks.old list.old)
@@ -78,7 +76,7 @@ pub fn df(
     preds: &mut [u16],
     marks: &mut [u8],
     list: &mut [u8],
-) -> Answer
+) -> Result<Found, TurnedDown>
     ensures promised { DfPromised (asked image.now source strip)
         (lent times.old moves.old preds.old
         marks.old list.old)

@@ -6,12 +6,12 @@ ghost use Rattle.net.specs.Search.{df_search};
 ghost use Rattle.reply.specs.Reply.{asked, roomy, reply_of, searched};
 
 use super::calls::df;
-use reply::Answer;
+use reply::{Found, TurnedDown};
 
 // The entries of a table with room for every map.
 pub const TABLE: usize = 2048;
 
-pub fn df_times(image: &[u8], source: u16, strip: u16, times: &mut [u32]) -> Answer
+pub fn df_times(image: &[u8], source: u16, strip: u16, times: &mut [u32]) -> Result<Found, TurnedDown>
     ensures reply { reply_of result ≡
         (searched df_search (asked image.now source strip) (roomy times.old)).reply }
     ensures times { times.new ≡

@@ -1,13 +1,14 @@
 -- Station by station the entries that the cells show are written, and a table all of whose entries are written is the
 -- list of these.
-use Rattle.common.proofs.Ground.{◌≡◌, refl, sym, ◌∙◌, Bool, dite, List, ℕ, ◌+◌, ◌≤◌, ◌<◌, arith, ℕ_discrete, add-one}
-use Rattle.common.proofs.Ground.{length, get_or, set, replicate, length-set, length-replicate, get_or-replicate}
-use Rattle.common.proofs.Ground.{get_or-set_same, get_or-set_other, ext_get_or, ltb}
+use Rattle.common.proofs.Ground.{◌≡◌, refl, sym, ◌∙◌, false, true, dite, List, ℕ, zero, suc, ◌+◌, ◌≤◌, ◌<◌, arith}
+use Rattle.common.proofs.Ground.{ℕ_discrete, add-one, length, get_or, set, replicate, length-replicate}
+use Rattle.common.proofs.Ground.{get_or-replicate, get_or-set_same, get_or-set_other, ext_get_or, ltb}
+use Rattle.common.specs.Numbers.{nobody, no_time, no_moves, no_pred}
 use Rattle.common.specs.Costs.{time_in, moves_in, no_cost}
 use Rattle.common.proofs.Windows.{any-default}
 use Rattle.net.specs.Net.{one, count}
 use Rattle.net.proofs.Basics.Count.{count-le}
-use Rattle.tables.specs.Finishing.{shown, cost_in, pred_in, Shows, Finished}
+use Rattle.tables.specs.Finishing.{cost_in, pred_in, Shows, Finished}
 
 -- One entry more is written.
 shows_more : (f : ℕ → ℕ) (n : ℕ) (table : List ℕ) → Shows f n table → n < length table
@@ -16,58 +17,62 @@ shows_more f n table s h v l = dite (ℕ_discrete v n)
     (λ same. rw same (get_or-set_same table n (f n) 0 h))
     (λ other. get_or-set_other table n v (f n) 0 other ∙ s v (omega arith))
 
--- The loop over the stations: so many are written, and no table has changed its length.
-pub record Finishing (over : Bool) (cells t₀ w₀ p₀ m₀ t w p m : List ℕ) (r n : ℕ) : Type 0 where
-  pub within : n ≤ length t₀
-  pub same_times : length t ≡ length t₀
-  pub same_moves : length w ≡ length w₀
-  pub same_preds : length p ≡ length p₀
-  pub same_marks : length m ≡ length m₀
-  pub so_far : Finished over cells n t w p m r
+-- A table that is one number throughout.
+pub shows_same : (n x : ℕ) → Shows (λ v. x) n (replicate n x)
+shows_same n x v l = get_or-replicate n v x 0 l
 
-pub finishing_none : (over : Bool) (cells t w p m : List ℕ) → Finishing over cells t w p m t w p m 0 0
+-- The loop over the stations: so many are written, of which so many have a time.
+pub record Finishing (cells : List ℕ) (n : ℕ) (t w p : List ℕ) (r : ℕ) : Type 0 where
+  pub times : Shows (λ v. time_in (cost_in (get_or cells v 0))) n t
+  pub moves : Shows (λ v. moves_in (cost_in (get_or cells v 0))) n w
+  pub preds : Shows (λ v. pred_in (get_or cells v 0)) n p
+  pub reached : r ≡ count (λ v. ltb (cost_in (get_or cells v 0)) no_cost) n
+
+pub finishing_none : (cells t w p : List ℕ) → Finishing cells 0 t w p 0
 unfolding count
-finishing_none over cells t w p m = record {
-  within = omega arith;
-  same_times = refl;
-  same_moves = refl;
-  same_preds = refl;
-  same_marks = refl;
-  so_far = record {
-    times = λ v l. absurd (omega arith);
-    moves = λ v l. absurd (omega arith);
-    preds = λ v l. absurd (omega arith);
-    marks = λ v l. absurd (omega arith);
-    reached = refl;
-  };
+finishing_none cells t w p = record {
+  times = λ v l. absurd (omega arith);
+  moves = λ v l. absurd (omega arith);
+  preds = λ v l. absurd (omega arith);
+  reached = refl;
 }
 
-module _ {over : Bool} {cells t₀ w₀ p₀ m₀ t w p m : List ℕ} {r n : ℕ}
-    (f : Finishing over cells t₀ w₀ p₀ m₀ t w p m r n) where
+module _ {cells t w p : List ℕ} {r n : ℕ} (f : Finishing cells n t w p r) where
   pub few_reached : r ≤ n
-  few_reached = omega (arith, f.so_far.reached, count-le (λ v. ltb (cost_in (shown over (get_or cells v 0))) no_cost) n)
+  few_reached = omega (arith, f.reached, count-le (λ v. ltb (cost_in (get_or cells v 0)) no_cost) n)
 
-  pub finishing_more : {t' w' p' m' : List ℕ} {more : ℕ}
-      → (length w₀ ≡ length t₀) × ((length p₀ ≡ length t₀) × (length m₀ ≡ length t₀)) → n < length t
-      → let cell = shown over (get_or cells n 0) in
-      t' ≡ set t n (time_in (cost_in cell)) → w' ≡ set w n (moves_in (cost_in cell)) → p' ≡ set p n (pred_in cell)
-      → m' ≡ set m n 0 → more ≡ one (ltb (cost_in cell) no_cost)
-      → Finishing over cells t₀ w₀ p₀ m₀ t' w' p' m' (r + more) (n + 1)
+  pub finishing_more : n < length t → n < length w → n < length p
+      → let cell = get_or cells n 0 in
+      Finishing cells (n + 1) (set t n (time_in (cost_in cell))) (set w n (moves_in (cost_in cell)))
+      (set p n (pred_in cell)) (r + one (ltb (cost_in cell) no_cost))
   unfolding count
-  finishing_more sizes l et ew ep em more = rw (et, ew, ep, em, more) (record {
-    within = omega arith;
-    same_times = simp length-set f.same_times;
-    same_moves = simp length-set f.same_moves;
-    same_preds = simp length-set f.same_preds;
-    same_marks = simp length-set f.same_marks;
-    so_far = record {
-      times = shows_more _ n t f.so_far.times l;
-      moves = shows_more _ n w f.so_far.moves (omega arith);
-      preds = shows_more _ n p f.so_far.preds (omega arith);
-      marks = shows_more (λ v. 0) n m f.so_far.marks (omega arith);
-      reached = rw add-one (omega (arith, f.so_far.reached));
-    };
-  })
+  finishing_more lt lw lp = record {
+    times = shows_more _ n t f.times lt;
+    moves = shows_more _ n w f.moves lw;
+    preds = shows_more _ n p f.preds lp;
+    reached = rw add-one (omega (arith, f.reached));
+  }
+
+  -- All are written, and the marks cleared.
+  pub finishing_end : (m : List ℕ) → Shows (λ v. 0) n m → Finished true cells n t w p m r
+  finishing_end m cleared =
+      record { times = f.times; moves = f.moves; preds = f.preds; marks = cleared; reached = f.reached }
+
+-- Where a bad page ended the search every cell shows nothing, and nobody is reached.
+none_reached : (cells : List ℕ) (n : ℕ) → 0 ≡ count (λ v. ltb (cost_in nobody) no_cost) n
+unfolding count
+none_reached cells zero = refl
+none_reached cells (suc n) = omega (arith, none_reached cells n)
+
+pub finished_none : (cells : List ℕ) (n : ℕ) → Finished false cells n (replicate n no_time) (replicate n no_moves)
+    (replicate n no_pred) (replicate n 0) 0
+finished_none cells n = record {
+  times = shows_same n no_time;
+  moves = shows_same n no_moves;
+  preds = shows_same n no_pred;
+  marks = shows_same n 0;
+  reached = none_reached cells n;
+}
 
 -- A table all of whose entries are shown is the list of these.
 pub shows_all : (f : ℕ → ℕ) (table target : List ℕ) (n d : ℕ) → length table ≡ n → length target ≡ n → Shows f n table

@@ -3,41 +3,33 @@
 
 #![tactic(auto)]
 
-ghost use Rattle.std.specs.Prelude.{◌≡◌, ◌≤◌, ◌<◌, length, set, ltb};
+ghost use Rattle.std.specs.Prelude.{◌≡◌, ◌≤◌, ◌<◌, length, set, ltb, IfSome};
 ghost use Rattle.common.specs.Costs.{time_in, moves_in, no_cost};
 ghost use Rattle.net.specs.Net.{one};
-ghost use Rattle.tables.specs.Finishing.{shown, cost_in, pred_in, Finished};
+ghost use Rattle.tables.specs.Finishing.{cost_in, pred_in, FinishedBy};
 
-use common::{NO_COST, NO_PRED, NOBODY, SOURCE, TENTH};
+use common::{NO_COST, NO_PRED, NO_TIME, SOURCE, TENTH};
 
-// The cell that is shown of a station: its own if the search is over, nobody's if a bad page ended it.
-fn shown(over: bool, cell: u64) -> u64
-    ensures value { result ≡ shown over cell }
+// The moves of a station that has no time.
+const NO_MOVES: u16 = 65535;
+
+// The cost that a cell shows; one too high for a cost is none.
+fn cost_in(cell: u64) -> u64
+    ensures value { result ≡ cost_in cell }
 {
-    if over { cell } else { NOBODY }
+    (cell / 2048).min(NO_COST)
 }
 
-// The cost that is shown of a cell; one too high for a cost is none.
-fn cost_in(over: bool, cell: u64) -> u64
-    ensures value { result ≡ cost_in (shown over cell) }
+fn time_in(cell: u64) -> u32
+    ensures value { result ≡ time_in (cost_in cell) }
 {
-    let cost = shown(over, cell) / 2048;
-    if cost < NO_COST {
-        return cost;
-    }
-    NO_COST
+    (cost_in(cell) / TENTH) as u32
 }
 
-fn time_in(over: bool, cell: u64) -> u32
-    ensures value { result ≡ time_in (cost_in (shown over cell)) }
+fn moves_in(cell: u64) -> u16
+    ensures value { result ≡ moves_in (cost_in cell) }
 {
-    (cost_in(over, cell) / TENTH) as u32
-}
-
-fn moves_in(over: bool, cell: u64) -> u16
-    ensures value { result ≡ moves_in (cost_in (shown over cell)) }
-{
-    (cost_in(over, cell) % TENTH) as u16
+    (cost_in(cell) % TENTH) as u16
 }
 
 fn pred_in(cell: u64) -> u16
@@ -52,58 +44,34 @@ fn pred_in(cell: u64) -> u16
     NO_PRED
 }
 
-// 1 for a cost and 0 for none.
-fn counted(cost: u64) -> usize
-    ensures value { result ≡ one (ltb cost no_cost) }
-{
-    if cost < NO_COST { 1 } else { 0 }
-}
-
-// Writes the entries of station v, and answers 1 if it has a time and 0 if not.
-fn write_station(
-    v: usize,
-    over: bool,
-    cell: u64,
-    times: &mut [u32],
-    moves: &mut [u16],
-    preds: &mut [u16],
-    marks: &mut [u8],
-) -> usize
-    requires inside { (v < length times.old) × ((v < length moves.old) ×
-        ((v < length preds.old) × (v < length marks.old))) }
-    ensures times { times.new ≡ set times.old v (time_in (cost_in (shown over cell))) }
-    ensures moves { moves.new ≡ set moves.old v (moves_in (cost_in (shown over cell))) }
-    ensures preds { preds.new ≡ set preds.old v (pred_in (shown over cell)) }
-    ensures marks { marks.new ≡ set marks.old v 0 }
-    ensures reached { result ≡ one (ltb (cost_in (shown over cell)) no_cost) }
-{
-    times[v] = time_in(over, cell);
-    moves[v] = moves_in(over, cell);
-    preds[v] = pred_in(shown(over, cell));
-    marks[v] = 0;
-    counted(cost_in(over, cell))
-}
-
-// Writes the windows of the tables, which have an entry for each station, and answers how many stations have a time.
+// Writes the windows of the tables, which have an entry for each station, and answers how many stations have a time. A
+// search that a bad page ended has no cells to show: then none has.
 pub fn finish(
-    over: bool,
-    cells: &[u64],
+    shown: Option<&[u64]>,
     times: &mut [u32],
     moves: &mut [u16],
     preds: &mut [u16],
     marks: &mut [u8],
 ) -> usize
-    requires cells { length times.old ≤ length cells.now }
+    requires cells { IfSome shown (λ cells. length times.old ≤ length cells.now) }
     requires sizes { (length moves.old ≡ length times.old) ×
         ((length preds.old ≡ length times.old) × (length marks.old ≡ length times.old)) }
-    ensures finished { Finished over cells.now (length times.old)
+    ensures finished { FinishedBy shown.entry (length times.old)
         times.new moves.new preds.new marks.new result }
 {
+    marks.fill(0);
+    let Some(cells) = shown else {
+        times.fill(NO_TIME);
+        moves.fill(NO_MOVES);
+        preds.fill(NO_PRED);
+        return 0;
+    };
     let mut reached: usize = 0;
-    let mut v: usize = 0;
-    while v < times.len() {
-        reached += write_station(v, over, cells[v], times, moves, preds, marks);
-        v += 1;
+    for (v, time) in times.iter_mut().enumerate() {
+        *time = time_in(cells[v]);
+        moves[v] = moves_in(cells[v]);
+        preds[v] = pred_in(cells[v]);
+        reached += usize::from(cost_in(cells[v]) < NO_COST);
     }
     reached
 }

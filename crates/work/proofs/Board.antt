@@ -17,7 +17,8 @@ use Rattle.layout.proofs.Slots.{slot_below, slot_on_page, same_slot}
 use Rattle.queue.specs.Keys.{packed}
 use Rattle.queue.specs.Queue.{Put}
 use Rattle.queue.proofs.Least.{least_before, least_behind, least_lowered}
-use Rattle.cells.specs.Cells.{Memory, memory, Relaxed, PlacedAt}
+use Rattle.cells.specs.declared.Memory.{Memory}
+use Rattle.cells.specs.Cells.{memory, Relaxed, PlacedAt}
 use Rattle.relax.specs.Visits.{without_waiting}
 use Rattle.cells.proofs.Relaxed.{relaxed_room, relaxed_cell, relaxed_other, relaxed_waits, relaxed_waits_other}
 use Rattle.cells.proofs.Relaxed.{room_waiting}

@@ -16,7 +16,7 @@ use Rattle.layout.specs.Places.{first_slot, slot_of}
 use Rattle.queue.specs.Keys.{packed, least_in}
 use Rattle.queue.specs.Queue.{leaves_of}
 use Rattle.queue.proofs.Least.{least_at_most, least-found}
-use Rattle.cells.specs.Cells.{Memory}
+use Rattle.cells.specs.declared.Memory.{Memory}
 use Rattle.work.specs.Board.{key_if, least_on, chosen, Serving, frame_of, Board}
 use Rattle.work.proofs.Board.{page_end}
 

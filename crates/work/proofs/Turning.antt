@@ -18,7 +18,8 @@ use Rattle.layout.specs.Places.{first_slot, slot_of, Placed}
 use Rattle.layout.specs.Rows.{entry_of, row_of, Laid}
 use Rattle.queue.specs.Keys.{least_in}
 use Rattle.queue.specs.Queue.{Put}
-use Rattle.cells.specs.Cells.{Memory, memory, Room, Relaxed, most_cost, PlacedAt}
+use Rattle.cells.specs.declared.Memory.{Memory}
+use Rattle.cells.specs.Cells.{memory, Room, Relaxed, most_cost, PlacedAt}
 use Rattle.relax.specs.Visits.{Relaxing, none, more, without_waiting, Visited, LaidOut, Targets, longest}
 use Rattle.work.specs.Board.{least_on, chosen, Serving, frame_of, Board}
 use Rattle.work.specs.Hand.{state_after, Stands, rows_of, Hand}

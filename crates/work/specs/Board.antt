@@ -11,7 +11,8 @@ use Rattle.net.specs.Run.{waits}
 use Rattle.net.proofs.Sound.{Sound}
 use Rattle.layout.specs.Places.{first_slot, slot_of, Placed}
 use Rattle.queue.specs.Keys.{packed, least_from}
-use Rattle.cells.specs.Cells.{Memory, Room}
+use Rattle.cells.specs.declared.Memory.{Memory}
+use Rattle.cells.specs.Cells.{Room}
 
 -- The cell of station v: the source's is 0, nobody's where v has no time, and otherwise cost and predecessor.
 pub record CellIs (source v held pred cell : ℕ) : Type 0 where

@@ -4,7 +4,7 @@ use Rattle.net.specs.Net.{Move}
 use Rattle.net.specs.Search.{State, going}
 use Rattle.net.specs.Run.{turn_limit, after_references, InHand}
 use Rattle.layout.specs.Rows.{entry_of, Laid}
-use Rattle.cells.specs.Cells.{Memory}
+use Rattle.cells.specs.declared.Memory.{Memory}
 use Rattle.work.specs.Board.{Serving, frame_of, least_on, Board}
 
 -- The state of a search after k references.

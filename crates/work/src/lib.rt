@@ -5,9 +5,9 @@
 
 ghost use Rattle.std.specs.Prelude.{◌≡◌, ◌%◌, ◌<◌};
 ghost use Rattle.common.specs.Numbers.{nobody};
-ghost use Rattle.cells.specs.Cells.{memory};
 ghost use Rattle.work.specs.Hand.{Working, Worked};
 
+use cells::Memory;
 use common::NOBODY;
 use layout::places::{first_slot, slot_of};
 use queue::{least_between, set_leaf};
@@ -28,51 +28,42 @@ fn work_through(
     key: u64,
     places: &[u16],
     layout: &[u32],
-    cells: &mut [u64],
-    waiting: &mut [u64],
-    queue: &mut [u64],
+    memory: &mut Memory,
 )
-    requires in_hand { Working p places.now layout.now turns key
-        (memory cells.old waiting.old queue.old) }
+    requires in_hand { Working p places.now layout.now turns key memory.old }
     ensures worked { Worked p places.now layout.now turns key
-        (memory cells.old waiting.old queue.old)
-        (memory cells.new waiting.new queue.new) }
+        memory.old memory.new }
 {
     let lo = first_slot(places, p);
     let hi = first_slot(places, p + 1);
     let mut least = key;
-    let mut left = turns;
-    while 0 < left && least < NOBODY {
-        visit(station_of(least), places, layout, cells, waiting, queue);
-        least = least_between(waiting, lo, hi);
-        left -= 1;
+    for _ in 0..turns {
+        if NOBODY <= least {
+            break;
+        }
+        visit(station_of(least), places, layout, memory);
+        least = least_between(&memory.waiting, lo, hi);
     }
-    set_leaf(queue, p, least);
+    set_leaf(&mut memory.queue, p, least);
 }
 
 // The only turn of page p. The page's leaf is set to the least key of those that go on waiting before the moves are
 // relaxed, as what they lower reaches the leaf by itself: so neither has to wait for the other.
-fn take_turn(
-    p: usize,
-    key: u64,
-    places: &[u16],
-    layout: &[u32],
-    cells: &mut [u64],
-    waiting: &mut [u64],
-    queue: &mut [u64],
-)
+fn take_turn(p: usize, key: u64, places: &[u16], layout: &[u32], memory: &mut Memory)
     requires somebody { key < nobody }
-    requires in_hand { Working p places.now layout.now 1 key
-        (memory cells.old waiting.old queue.old) }
+    requires in_hand { Working p places.now layout.now 1 key memory.old }
     ensures worked { Worked p places.now layout.now 1 key
-        (memory cells.old waiting.old queue.old)
-        (memory cells.new waiting.new queue.new) }
+        memory.old memory.new }
 {
     let u = station_of(key);
-    waiting[slot_of(places, u)] = NOBODY;
-    let others = least_between(waiting, first_slot(places, p), first_slot(places, p + 1));
-    set_leaf(queue, p, others);
-    relax_moves(u, places, layout, cells, waiting, queue);
+    memory.waiting[slot_of(places, u)] = NOBODY;
+    let others = least_between(
+        &memory.waiting,
+        first_slot(places, p),
+        first_slot(places, p + 1),
+    );
+    set_leaf(&mut memory.queue, p, others);
+    relax_moves(u, places, layout, memory);
 }
 
 // Works on page p, whose least waiting key is given, for so many turns at most.
@@ -82,19 +73,15 @@ pub fn work_page(
     key: u64,
     places: &[u16],
     layout: &[u32],
-    cells: &mut [u64],
-    waiting: &mut [u64],
-    queue: &mut [u64],
+    memory: &mut Memory,
 )
     requires somebody { key < nobody }
-    requires in_hand { Working p places.now layout.now turns key
-        (memory cells.old waiting.old queue.old) }
+    requires in_hand { Working p places.now layout.now turns key memory.old }
     ensures worked { Worked p places.now layout.now turns key
-        (memory cells.old waiting.old queue.old)
-        (memory cells.new waiting.new queue.new) }
+        memory.old memory.new }
 {
     if turns == 1 {
-        return take_turn(p, key, places, layout, cells, waiting, queue);
+        return take_turn(p, key, places, layout, memory);
     }
-    work_through(p, turns, key, places, layout, cells, waiting, queue)
+    work_through(p, turns, key, places, layout, memory)
 }

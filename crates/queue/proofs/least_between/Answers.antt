@@ -1,14 +1,29 @@
-use Rattle.queue.proofs.Scan.{scan_start, scan_one, scan_four}
+use Rattle.common.proofs.Ground.{◌+◌, ◌-◌, ◌*◌, ◌/◌, ◌≡◌, arith}
+use Rattle.queue.proofs.Scan.{scan_start, scan_one, scan_four, part_size}
 use Rattle.queue.proofs.least_between.Goals as goal
 
-pub loop-i-init : goal.loop-i-init
-loop-i-init c = scan_start _ _ _ c.requires.ordered
+pub loop-four-init : goal.loop-four-init
+loop-four-init c = scan_start _ _ _
 
-pub loop-i-preserved : goal.loop-i-preserved
-loop-i-preserved c =
-    rw (c.lesser-least.ensures.value, c.least_of-four.ensures.value)
-    (scan_four c.requires.inside c.loop-i.invariant c.loop-i-test.true)
+pub loop-four-preserved : goal.loop-four-preserved
+loop-four-preserved c =
+    rw (c.min-least.ensures, c.least_of.ensures.value)
+    (scan_four _ _ _ c.requires.inside _ c.as_chunks.ensures.front (omega (arith, c.as_chunks.ensures.front_len)) c.loop-four.invariant)
 
-pub loop-i-2-preserved : goal.loop-i-2-preserved
-loop-i-2-preserved c =
-    rw c.lesser-least-in-loop-i-2.ensures.value (scan_one c.requires.inside c.loop-i-2.invariant c.loop-i-2-test.true)
+pub loop-key-init : goal.loop-key-init
+loop-key-init c =
+    let size = part_size c.args.keys.now c.args.lo c.args.hi c.requires.inside in
+    let is : (c.args.hi - c.args.lo) / 4 * 4 + 0 ≡ 4 * c.loop-four.four-index = omega (arith, size, c.as_chunks.ensures.front_len) in
+    rw is c.loop-four.invariant
+
+pub loop-key-preserved : goal.loop-key-preserved
+loop-key-preserved c =
+    rw c.min-least-in-loop-key.ensures
+    (scan_one _ _ _ c.requires.inside c.as_chunks.ensures.back c.loop-key-test.true c.loop-key.invariant)
+
+pub returns : goal.returns
+returns c =
+    let size = part_size c.args.keys.now c.args.lo c.args.hi c.requires.inside in
+    let is : c.args.hi - c.args.lo ≡ (c.args.hi - c.args.lo) / 4 * 4 + c.loop-key.key-index =
+    omega (arith, size, c.as_chunks.ensures.back_len) in
+    record { least = rw is c.loop-key.invariant.found }

@@ -4,5 +4,5 @@ use Rattle.queue.proofs.lower_leaf.Goals as goal
 
 pub returns : goal.returns
 returns c = record {
-  lowered = put_lower _ _ _ _ _ c.requires.page c.requires.groups c.lesser.ensures.value c.lesser-2.ensures.value;
+  lowered = put_lower _ _ _ _ _ c.requires.page c.requires.groups c.min.ensures c.min-2.ensures;
 }

@@ -1,12 +1,6 @@
--- The loop's invariant: the rows up to i are relaxed (`Going`).
-use Rattle.common.proofs.Ground.{◌-◌}
-use Rattle.cells.specs.Cells.{memory}
+-- The loop's invariant: the rows so far are relaxed (`Going`).
 use Rattle.relax.proofs.Loop.{Going}
 use Rattle.relax.proofs.relax_rows.Given as goal
 
-abbrev pub invariant-loop-i : goal.invariant-loop-i
-invariant-loop-i l =
-    Going l.places l.layout l.u l.cost l.lo l.hi (memory l.initial.cells l.initial.waiting l.initial.queue) l.i (memory l.cells l.waiting l.queue)
-
-abbrev pub decreases-loop-i : goal.decreases-loop-i
-decreases-loop-i l = l.hi - l.i
+abbrev pub invariant-loop-row : goal.invariant-loop-row
+invariant-loop-row l = Going l.places l.rows l.u l.cost l.initial.memory l.row-index l.memory

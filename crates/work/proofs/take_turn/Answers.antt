@@ -1,20 +1,18 @@
 -- The station of the key stops waiting, the page's leaf gets the least key of those that go on waiting, and the moves
 -- are relaxed: with that the page's only turn is made, and the page is left (proofs/Turning.antt).
 use Rattle.common.proofs.Ground.{arith}
-use Rattle.cells.specs.Cells.{memory}
 use Rattle.work.proofs.Turning.{place, LeafSet, leaf_put, last_asks, last_turn}
 use Rattle.work.proofs.take_turn.Goals as goal
 
-pub bounds-waiting-slot_of : goal.bounds-waiting-slot_of
-bounds-waiting-slot_of c =
+pub bounds-memory-slot_of : goal.bounds-memory-slot_of
+bounds-memory-slot_of c =
     let hand = c.requires.in_hand.2 in
     let own = place hand (omega arith) c.requires.somebody in
     omega (arith, c.slot_of.ensures.value, rw (← c.station_of-u.ensures.value) at own.slot, hand.board.room)
 
 pub relax_moves-requires : goal.relax_moves-requires
 relax_moves-requires c =
-    let leaf : LeafSet c.args.places.now c.args.p c.args.key
-    (memory c.args.cells.now c.args.waiting.now c.args.queue.now) c.station_of-u.result c.slot_of.result
+    let leaf : LeafSet c.args.places.now c.args.p c.args.key c.args.memory.now c.station_of-u.result c.slot_of.result
     c.set_leaf.new.queue
     = record {
       named = c.station_of-u.ensures.value;
@@ -27,8 +25,7 @@ relax_moves-requires c =
 
 pub returns : goal.returns
 returns c =
-    let leaf : LeafSet c.args.places.now c.args.p c.args.key
-    (memory c.args.cells.now c.args.waiting.now c.args.queue.now) c.station_of-u.result c.slot_of.result
+    let leaf : LeafSet c.args.places.now c.args.p c.args.key c.args.memory.now c.station_of-u.result c.slot_of.result
     c.set_leaf.new.queue
     = record {
       named = c.station_of-u.ensures.value;
