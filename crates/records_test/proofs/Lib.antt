@@ -1,3 +1,3 @@
--- The law behind the writer's loop.
+-- The law behind the lists that are lent.
 
-mod Taken
+mod Fronts

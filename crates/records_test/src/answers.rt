@@ -1,29 +1,34 @@
 // The text of an answer: `listed 8` or `written`, or the refusal's number with the place that it names.
 
-use cases_io::{STDOUT_FILENO, print_number, print_refusal};
-use listing::ReadAnswer;
-use writing::WriteAnswer;
+use cases_io::Told;
+use image::Refusal;
+use std::fmt;
+use writing::WriteRefusal;
 
-// Prints what the reader answered.
-pub fn print_listed(answer: ReadAnswer) {
-    match answer {
-        ReadAnswer::Listed(count) => print_number(b"listed ", count as u64),
-        ReadAnswer::Refused(refusal) => print_refusal(refusal),
+// What the reader answered.
+#[derive(Clone, Copy)]
+pub struct Listed(pub Result<usize, Refusal>);
+
+impl fmt::Display for Listed {
+    fn fmt<W: fmt::Write>(&self, f: &mut fmt::Formatter<W>) -> fmt::Result {
+        match self.0 {
+            Ok(count) => write!(f, "listed {count}"),
+            Err(refusal) => write!(f, "{}", Told(refusal)),
+        }
     }
-    io::write_all(STDOUT_FILENO, b"\n");
 }
 
-// Prints what the writer answered, and says whether that is an image.
-pub fn print_written(answer: WriteAnswer) -> bool {
-    match answer {
-        WriteAnswer::Written => {
-            io::write_all(STDOUT_FILENO, b"written\n");
-            return true;
+// What the writer answered.
+#[derive(Clone, Copy)]
+pub struct Written(pub Result<(), WriteRefusal>);
+
+impl fmt::Display for Written {
+    fn fmt<W: fmt::Write>(&self, f: &mut fmt::Formatter<W>) -> fmt::Result {
+        match self.0 {
+            Ok(()) => write!(f, "written"),
+            Err(WriteRefusal::Shape(refusal)) => write!(f, "{}", Told(refusal)),
+            Err(WriteRefusal::Record(index)) => write!(f, "refused 19, record {index}"),
+            Err(WriteRefusal::Page(page)) => write!(f, "refused 20, page {page}"),
         }
-        WriteAnswer::Refused(refusal) => print_refusal(refusal),
-        WriteAnswer::BadRecord(index) => print_number(b"refused 19, record ", index as u64),
-        WriteAnswer::FullPage(page) => print_number(b"refused 20, page ", page as u64),
     }
-    io::write_all(STDOUT_FILENO, b"\n");
-    false
 }

@@ -1,6 +1,5 @@
 // Runs the reader and the writer of move records (02, C-16) over cases from standard input and prints the whole of what
-// each call handed back: its answer, the records that were read, every byte of the buffer that was lent. The cases go
-// to the functions below the public calls, in the order of these.
+// each call handed back: its answer, the records that were read, every byte of the buffer that was lent.
 // tests/make_records_cases.py writes the cases and, by rules of its own, the text that this program must print.
 //
 // The input is a row of cases, as the crate cases_io reads maps: a label, the bytes of the case, and its calls. A call
@@ -16,15 +15,13 @@
 #![tactic(auto)]
 
 mod answers;
-mod reader;
+mod calls;
 mod rounds;
-mod writer;
 
-use cases_io::{
-    Map, STDIN_FILENO, STDOUT_FILENO, after_call, change_bytes, print_number, read_map,
-};
-use image::bytes::word_at;
+use cases_io::{change_bytes, run_cases};
+use image::bytes::{byte_at, word_at};
 use rounds::{run_reader, run_writer};
+use std::io;
 
 // The kind of a call of the writer.
 const WRITE: u8 = 2;
@@ -32,64 +29,38 @@ const WRITE: u8 = 2;
 // The most bytes of a case: those of more records than a map can have.
 const BYTES: usize = 110000;
 
-fn print_reading(call: &[u8]) {
-    print_number(b" read, room ", word_at(call, 10) as u64);
-    io::write_all(STDOUT_FILENO, b"\n");
+fn print_reading<R: Print>(rt: &R, call: &[u8]) -> io::Result<()> {
+    println!(rt; " read, room {}", word_at(call, 10))
 }
 
-fn print_writing(call: &[u8]) {
-    print_number(b" write, N ", word_at(call, 0) as u64);
-    print_number(b", P ", word_at(call, 2) as u64);
-    print_number(b", directory ", word_at(call, 4) as u64);
-    print_number(b", records ", word_at(call, 8) as u64);
-    print_number(b", buffer ", word_at(call, 10) as u64);
-    io::write_all(STDOUT_FILENO, b"\n");
-}
-
-fn print_call(call: &[u8; 14]) {
-    if call[12] == WRITE {
-        print_writing(call);
-    } else {
-        print_reading(call);
-    }
-}
-
-fn run(bytes: &[u8], call: &[u8; 14]) {
-    if call[12] == WRITE {
-        run_writer(bytes, call);
-    } else {
-        run_reader(bytes, call);
-    }
+fn print_writing<R: Print>(rt: &R, call: &[u8]) -> io::Result<()> {
+    print!(rt; " write, N {}, P {}", word_at(call, 0), word_at(call, 2))?;
+    print!(rt;
+        ", directory {}, records {}",
+        word_at(call, 4),
+        word_at(call, 8)
+    )?;
+    println!(rt; ", buffer {}", word_at(call, 10))
 }
 
 // Prints a call, makes its changes and runs it.
-fn answer_call(bytes: &mut [u8], call: &[u8; 14]) {
-    print_call(call);
-    change_bytes(bytes, call[13]);
-    io::write_all(STDOUT_FILENO, b"  answer: ");
-    run(bytes, call);
-}
-
-// Reads a call of the case at hand and answers it, and says what is at hand then.
-fn run_call(space: &mut [u8], map: Map) -> Map {
-    let mut call = [0u8; 14];
-    io::read_full(STDIN_FILENO, &mut call);
-    let n = io::count(map.size as isize, space);
-    answer_call(&mut space[..n], &call);
-    after_call(space, map)
-}
-
-// A proved loop has to end, so it counts its turns down from a number that no run uses up.
-fn run_calls(space: &mut [u8]) {
-    let mut map = read_map(space);
-    let mut turns = u64::MAX;
-    while turns > 0 && map.calls > 0 {
-        map = run_call(space, map);
-        turns -= 1;
+fn answer_call<R: Input + Print>(rt: &R, bytes: &mut [u8], call: &[u8]) -> io::Result<()> {
+    let is_write = byte_at(call, 12) == WRITE;
+    if is_write {
+        print_writing(rt, call)?;
+    } else {
+        print_reading(rt, call)?;
+    }
+    change_bytes(rt, bytes, byte_at(call, 13))?;
+    print!(rt; "  answer: ")?;
+    if is_write {
+        run_writer(rt, bytes, call)
+    } else {
+        run_reader(rt, bytes, call)
     }
 }
 
-fn main() {
+fn main(rt: HostRuntime) -> io::Result<()> {
     let mut space = [0u8; BYTES];
-    run_calls(&mut space);
+    run_cases::<_, 14, _>(&rt, &mut space, |bytes, call| answer_call(&rt, bytes, call))
 }

@@ -1,95 +1,94 @@
 // The calls of a case, and behind each one that is accepted the way back: what was read is written, what was written is
 // read.
 
-ghost use Rattle.std.specs.Prelude.{◌≡◌, ◌*◌, ◌≤◌, length};
+ghost use Rattle.std.specs.Prelude.{◌≤◌};
 
-use super::reader::{few, read_image};
-use super::writer::{Drawing, write_image};
-use cases_io::STDOUT_FILENO;
+use crate::calls::{read_image, write_image};
 use image::bytes::{part_of, word_at};
 use image::directory_of;
-use listing::ReadAnswer;
-use move_record::kept::KEPT;
-use tables_io::{LONGEST, within_longest};
+use move_record::{MoveRecord, NO_RECORD, RECORDS};
+use std::io;
+use tables_io::LONGEST;
 
 // What stands in a buffer before a call.
 const BYTE_BEFORE: u8 = 187;
 
+// The most records of a case.
+const MOST: usize = 16384;
+
 // Reads a written image for a list with room for its records and no more.
-fn read_back(image: &[u8], records: usize) {
-    let mut kept = [0u16; KEPT];
-    io::write_all(STDOUT_FILENO, b"  read back: ");
-    read_image(image, records, &mut kept);
+fn read_back<R: Print>(rt: &R, image: &[u8], records: usize) -> io::Result<()> {
+    let mut list = [NO_RECORD; RECORDS];
+    let list = &mut list[..records.min(RECORDS)];
+    print!(rt; "  read back: ")?;
+    read_image(rt, image, list)?;
+    Ok(())
 }
 
-// Writes the image of so many records of a list into a buffer, and reads what was written.
-fn write_lent(drawing: Drawing, directory: &[u8], list: &[u16], buffer: &mut [u8])
-    requires list { 4 * drawing.records ≤ length list.now }
-{
-    if write_image(drawing, directory, list, buffer) {
-        read_back(buffer, drawing.records);
-    }
-}
-
-// Does so with a new buffer of this length.
-fn write_list(drawing: Drawing, directory: &[u8], list: &[u16], room: usize)
-    requires list { 4 * drawing.records ≤ length list.now }
-{
+// Writes the image of records into a new buffer of this length, and reads what was written.
+fn write_list<R: Print>(
+    rt: &R,
+    records: &[MoveRecord],
+    size: u16,
+    pages: u16,
+    directory: &[u8],
+    room: usize,
+) -> io::Result<()> {
     let mut buffer = [BYTE_BEFORE; LONGEST];
-    let n = within_longest(room);
-    write_lent(drawing, directory, list, &mut buffer[..n]);
+    let image = &mut buffer[..room.min(LONGEST)];
+    if write_image(rt, records, size, pages, directory, image)? {
+        read_back(rt, image, records.len())?;
+    }
+    Ok(())
 }
 
-// Writes so many kept records with the image's N, P and directory.
-fn write_back(image: &[u8], kept: &[u16], count: usize)
-    requires memory { length kept.now ≡ 48960 }
-{
-    let drawing = Drawing {
-        size: word_at(image, 0),
-        pages: word_at(image, 2),
-        records: few(count),
-    };
-    io::write_all(STDOUT_FILENO, b"  written back: ");
-    write_list(drawing, directory_of(image), kept, image.len());
+// Writes records with the N, P and directory of the image that they were read from.
+fn write_back<R: Print>(rt: &R, image: &[u8], records: &[MoveRecord]) -> io::Result<()> {
+    print!(rt; "  written back: ")?;
+    let size = word_at(image, 0);
+    let pages = word_at(image, 2);
+    write_list(rt, records, size, pages, directory_of(image), image.len())
 }
 
 // Reads the bytes of a case as an image, and writes what was read.
-pub fn run_reader(image: &[u8], call: &[u8]) {
-    let mut kept = [0u16; KEPT];
-    match read_image(image, word_at(call, 10) as usize, &mut kept) {
-        ReadAnswer::Listed(count) => write_back(image, &kept, count),
-        ReadAnswer::Refused(refusal) => {}
+pub fn run_reader<R: Print>(rt: &R, image: &[u8], call: &[u8]) -> io::Result<()> {
+    let mut list = [NO_RECORD; RECORDS];
+    let room = usize::from(word_at(call, 10));
+    let list = &mut list[..room.min(RECORDS)];
+    match read_image(rt, image, list)? {
+        Some(records) => write_back(rt, image, records),
+        None => Ok(()),
     }
 }
 
-// Copies the records of a case, which begin at an offset, to a list of their length, four entries a record.
-fn read_list(bytes: &[u8], at: u16, list: &mut [u16])
-    requires short { length list.old ≤ 65536 }
+// The record of a case at an offset.
+fn record_in(bytes: &[u8], at: usize) -> MoveRecord
+    requires room { at ≤ 1000000 }
 {
-    let mut i: usize = 0;
-    while i < list.len() {
-        list[i] = word_at(bytes, at as usize + 2 * i);
-        i += 1;
+    MoveRecord {
+        from: word_at(bytes, at),
+        target: word_at(bytes, at + 2),
+        time: word_at(bytes, at + 4),
+        limit: word_at(bytes, at + 6),
     }
-}
-
-// Writes the image of the records in a case, by a list of their length.
-fn write_case(bytes: &[u8], call: &[u8], list: &mut [u16])
-    requires short { length list.old ≤ 65536 }
-{
-    read_list(bytes, word_at(call, 6), list);
-    let drawing = Drawing {
-        size: word_at(call, 0),
-        pages: word_at(call, 2),
-        records: list.len() / 4,
-    };
-    let directory = part_of(bytes, 0, word_at(call, 4) as usize);
-    write_list(drawing, directory, list, word_at(call, 10) as usize);
 }
 
 // Writes the image of the records in a case.
-pub fn run_writer(bytes: &[u8], call: &[u8]) {
-    let mut list = [0u16; LONGEST];
-    let n = within_longest(4 * (word_at(call, 8) as usize));
-    write_case(bytes, call, &mut list[..n]);
+pub fn run_writer<R: Print>(rt: &R, bytes: &[u8], call: &[u8]) -> io::Result<()> {
+    let mut list = [NO_RECORD; MOST];
+    let count = usize::from(word_at(call, 8)).min(MOST);
+    let from = usize::from(word_at(call, 6));
+    for (i, r) in list.iter_mut().take(count).enumerate() {
+        *r = record_in(bytes, from + 8 * i);
+    }
+    let directory = part_of(bytes, 0, usize::from(word_at(call, 4)));
+    let room = usize::from(word_at(call, 10));
+    write_list(
+        rt,
+        &list[..count],
+        word_at(call, 0),
+        word_at(call, 2),
+        directory,
+        room,
+    )
 }
