@@ -13,15 +13,16 @@ ghost use Rattle.order.specs.Answers.{order_in, naming_in};
 
 mod passing;
 
-use by_station::{PAGES, next_record};
+use by_station::next_record;
 use commands::{STATION, length_of};
-use image::{Checked, Refusal, station_count};
+use image::{Refusal, station_count};
+use layout::places::PAGES;
 use passing::pass_stations;
 use std::cmp::Ordering;
 use whole::check;
 
 // Which of two images is refused by the whole check.
-#[derive(Clone, Copy)]
+#[derive(Clone, Copy, Debug, PartialEq, Eq)]
 pub enum OrderRefusal {
     First(Refusal),
     Second(Refusal),
@@ -59,13 +60,9 @@ fn by_map(first: &[u8], second: &[u8]) -> Ordering
 pub fn compare(first: &[u8], second: &[u8]) -> Result<Ordering, OrderRefusal>
     ensures promised { NamingPromised first.now second.now (naming_in result) }
 {
-    match check(first) {
-        Checked::Whole => match check(second) {
-            Checked::Whole => Ok(by_map(first, second)),
-            Checked::Refused(refusal) => Err(OrderRefusal::Second(refusal)),
-        },
-        Checked::Refused(refusal) => Err(OrderRefusal::First(refusal)),
-    }
+    check(first).map_err(OrderRefusal::First)?;
+    check(second).map_err(OrderRefusal::Second)?;
+    Ok(by_map(first, second))
 }
 
 // The lesser of two images itself, not a copy; of equals, or if one is refused, the first.

@@ -14,7 +14,7 @@ returns c =
     let put =
     placed_by_two line c.put_text-behind.new.line c.put_text.new.line name _ digits c.args.at c.put_text-behind.result
     c.put_text.result (omega (arith, c.requires.room)) (c.put_text-behind.ensures.put, c.put_text-behind.ensures.behind) (c.put_text.ensures.put, c.put_text.ensures.behind)
-    (from_first c.spell-from.new.text digits c.spell-from.result c.spell-from.auto.text
+    (from_first c.spell-from.new.text digits c.spell-from.result c.spell-from.ensures.size
     c.spell-from.ensures.spelled) in record {
       put = put.0;
       behind = put.1;

@@ -5,12 +5,13 @@ use Rattle.text.proofs.spell.Goals as goal
 
 pub returns-then-rest-lt10 : goal.returns-then-rest-lt10
 returns-then-rest-lt10 c = record {
-  spelled = spell_last c.args.n c.loop-rest.text c.loop-rest.rest c.loop-rest.at (c.loop-rest.at - 1) _ (omega arith)
-      c.last_digit.ensures.value c.loop-rest.invariant c.if-rest-lt10.true;
+  spelled = spell_last c.args.n c.loop-at.text c.loop-at.rest c.loop-at.at (c.loop-at.at - 1) _ (omega arith)
+      c.last_digit.ensures.value c.loop-at.invariant c.if-rest-lt10.true;
   inside = search rules;
+  size = search rules;
 }
 
-pub loop-rest-preserved : goal.loop-rest-preserved
-loop-rest-preserved c =
-    spell_more c.args.n c.loop-rest.text c.loop-rest.rest c.loop-rest.at (c.loop-rest.at - 1) _
-    (omega arith) c.last_digit.ensures.value c.loop-rest.invariant c.if-rest-lt10.false
+pub loop-at-preserved : goal.loop-at-preserved
+loop-at-preserved c =
+    spell_more c.args.n c.loop-at.text c.loop-at.rest c.loop-at.at (c.loop-at.at - 1) _
+    (omega arith) c.last_digit.ensures.value c.loop-at.invariant c.if-rest-lt10.false
