@@ -2,23 +2,21 @@
 // stands beside a page: at any other refusal the list has no entry.
 
 use cases_io::Told;
-use image::Place;
-use reply::Answer;
+use image::Refusal;
+use reply::{Found, TurnedDown};
 use std::fmt;
 
 #[derive(Clone, Copy)]
-pub struct Answered(pub Answer);
+pub struct Answered(pub Result<Found, TurnedDown>);
 
 impl fmt::Display for Answered {
     fn fmt<W: fmt::Write>(&self, f: &mut fmt::Formatter<W>) -> fmt::Result {
         match self.0 {
-            Answer::Accepted { count, reached } => {
-                write!(f, "accepted, count {count}, reached {reached}")
-            }
-            Answer::Refused { refusal, count } => {
+            Ok(Found { count, reached }) => write!(f, "accepted, count {count}, reached {reached}"),
+            Err(TurnedDown { refusal, count }) => {
                 write!(f, "{}", Told(refusal))?;
-                match refusal.place {
-                    Place::OnPage { .. } => write!(f, ", count {count}"),
+                match refusal {
+                    Refusal::BadPage(_) => write!(f, ", count {count}"),
                     _ => Ok(()),
                 }
             }

@@ -9,7 +9,7 @@ mod answers;
 
 use answers::Answered;
 use image::bytes::word_at;
-use reply::Answer;
+use reply::{Found, TurnedDown};
 use std::io;
 use tables_io::Table;
 
@@ -37,13 +37,17 @@ fn length_at(call: &[u8], at: usize) -> usize
 // One search, on new tables of the lengths that the call asks for, and all that it handed back.
 pub fn run_search<
     R: Print,
-    S: Fn(&[u8], u16, u16, &mut [u32], &mut [u16], &mut [u16], &mut [u8], &mut [u8]) -> Answer,
->(
-    rt: &R,
-    search: S,
-    image: &[u8],
-    call: &[u8],
-) -> io::Result<()>
+    S: Fn(
+        &[u8],
+        u16,
+        u16,
+        &mut [u32],
+        &mut [u16],
+        &mut [u16],
+        &mut [u8],
+        &mut [u8],
+    ) -> Result<Found, TurnedDown>,
+>(rt: &R, search: S, image: &[u8], call: &[u8]) -> io::Result<()>
     requires { S.IsAlwaysCallable search }
 {
     let mut times = [TIME_BEFORE; ENTRIES];
