@@ -32,7 +32,7 @@ fn run(
     query: Query,
     image: &[u8],
     places: &[u16],
-    layout: &mut [u32],
+    layout: &mut [u32; LAYOUT],
     memory: &mut Memory,
     list: &mut [u8],
 ) -> Ended

@@ -12,6 +12,7 @@ ghost use Rattle.page.specs.Laying.{PageLaid, OthersKept};
 pub mod reader;
 
 use image::{BadPage, Fault, directory_of, page_of};
+use layout::moves::LAYOUT;
 use reader::read_page;
 
 // The first command at fault of a page.
@@ -42,10 +43,9 @@ pub fn read_page_of(
     p: u8,
     places: &[u16],
     strip: u16,
-    layout: &mut [u32],
+    layout: &mut [u32; LAYOUT],
 ) -> Result<(), BadCommand>
     requires placed { Placed (directory_of image.now) places.now }
-    requires table { length layout.old ≡ 17152 }
     ensures verdict { verdict_in result ≡ verdict_of (reading_of image.now p) }
     ensures laid { (moves : List Move) (stations : List Leaving)
         → reading_of image.now p ≡ good moves stations

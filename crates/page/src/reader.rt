@@ -9,7 +9,7 @@ ghost use Rattle.page.specs.Laying.{PageLaid, OthersKept};
 
 use super::BadCommand;
 use commands::{Command, LIMITED, MOVE, STATION, length_of};
-use layout::moves::{PAGE_MOVES, ROOM_FROM};
+use layout::moves::{LAYOUT, PAGE_MOVES, ROOM_FROM};
 use layout::places::first_slot;
 use rows::{begin_row, lay_limited, lay_move, least_behind};
 use rules::judged_at;
@@ -24,11 +24,10 @@ pub fn read_page(
     p: u8,
     page: &[u8],
     strip: u16,
-    layout: &mut [u32],
+    layout: &mut [u32; LAYOUT],
 ) -> Result<(), BadCommand>
     requires placed { Placed directory.now places.now }
     requires short { length page.now ≤ 256 }
-    requires table { length layout.old ≡ 17152 }
     ensures verdict { verdict_in result ≡ verdict_of (read_page directory.now p page.now) }
     ensures laid { (moves : List Move) (stations : List Leaving)
         → read_page directory.now p page.now ≡ good moves stations

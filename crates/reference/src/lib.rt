@@ -14,6 +14,7 @@ mod pages;
 use cells::Memory;
 use common::NOBODY;
 use image::{BadPage, page_count, station_count};
+use layout::moves::LAYOUT;
 use layout::places::page_at;
 use pages::fetch;
 use queue::top;
@@ -47,7 +48,7 @@ pub fn refer(
     image: &[u8],
     count: usize,
     places: &[u16],
-    layout: &mut [u32],
+    layout: &mut [u32; LAYOUT],
     memory: &mut Memory,
     list: &mut [u8],
 ) -> Result<Option<u8>, BadPage>

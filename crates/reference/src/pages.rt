@@ -6,7 +6,7 @@ ghost use Rattle.page.specs.Reading.{verdict_in};
 ghost use Rattle.layout.specs.Places.{Placed};
 ghost use Rattle.reference.specs.Standing.{Known, Fetched};
 
-use layout::moves::end_of;
+use layout::moves::{LAYOUT, end_of};
 use page::{BadCommand, read_page_of};
 
 // Fetches the page of station u.
@@ -16,7 +16,7 @@ pub fn fetch(
     u: usize,
     places: &[u16],
     strip: u16,
-    layout: &mut [u32],
+    layout: &mut [u32; LAYOUT],
 ) -> Result<(), BadCommand>
     requires placed { Placed (directory_of image.now) places.now }
     requires station { u < length (directory_of image.now) }

@@ -42,7 +42,7 @@ module _ {directory places page before layout : List ℕ} {p strip due at after 
 
 pub page-init : goal.page-init
 page-init c =
-    progress_start c.requires.placed (omega arith) c.requires.short c.requires.table c.first_slot-due.ensures.value
+    progress_start c.requires.placed (omega arith) c.requires.short c.told-layout c.first_slot-due.ensures.value
 
 pub overflow_sub-after : goal.overflow_sub-after
 overflow_sub-after c =
