@@ -1,4 +1,5 @@
-// The rules at one command of a page (01, "Map image"), by its kind: each gives the command itself, or its fault. Only this crate and commands, which reads a command, look at the bytes of a page.
+// The rules at one command of a page (01, "Map image"), by its kind: each gives the command itself, or its fault. Only
+// this crate and commands, which reads a command, look at the bytes of a page.
 
 #![tactic(auto)]
 
