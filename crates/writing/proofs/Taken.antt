@@ -1,7 +1,8 @@
 -- Records taken one by one: what it says of a record that it is taken, what the memory is then, and what taking keeps.
 -- By induction over the records, with the cases of whether the first of them is taken.
 use Rattle.common.proofs.Ground.{◌≡◌, ◌≢◌, refl, ap, ◌∙◌, Bool, true, false, ◌&&◌, ⊎_elim}
-use Rattle.common.proofs.Ground.{List, [], ◌∷◌, ℕ, suc, ◌+◌, ◌*◌, ◌≤◌, ◌<◌, arith, length, min, get_or, set, length-replicate}
+use Rattle.common.proofs.Ground.{List, [], ◌∷◌, ℕ, suc, ◌+◌, ◌*◌, ◌≤◌, ◌<◌, arith, length, min, get_or, set}
+use Rattle.common.proofs.Ground.{length-replicate}
 use Rattle.common.proofs.Ground.{length-set, get_or-set_same, get_or-set_other, ltb, eqb, lt-ltb, eq-eqb, ne_eqb}
 use Rattle.common.proofs.Ground.{ltb-true, eqb-true}
 use Rattle.std.specs.Prelude.{Option, Some, None}
