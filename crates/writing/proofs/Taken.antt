@@ -13,6 +13,9 @@ use Rattle.move_record.specs.Records.{no_record}
 use Rattle.roundtrip.specs.Written.{is_move, is_above}
 use Rattle.roundtrip.proofs.Order.{is_sound, is_above_lem}
 use Rattle.writing.specs.declared.taking.Memory.{Memory}
+use Rattle.common.proofs.Ground.{dite, dec_lt, take, get_or-replicate, get_or-eq_default, get_or-take, length-take}
+use Rattle.roundtrip.proofs.Fit.{AllFit}
+use Rattle.writing.specs.Taking.{Fits}
 use Rattle.writing.specs.Taking.{empty, bytes_of, width_for, above_latest, is_next, with_record, take_of}
 use Rattle.writing.specs.Taking.{taken, taken_all}
 
@@ -171,3 +174,15 @@ empty_records = length-replicate {A = MoveRecord} 12240 no_record
 
 pub empty_bytes : length empty.bytes ≡ 2048
 empty_bytes = length-replicate {A = ℕ} 2048 0
+
+-- Where nothing is listed, times and limits fit.
+pub empty_fits : Fits empty.records
+empty_fits k =
+    dite (dec_lt k 12240)
+    (λ inside. rw (get_or-replicate 12240 k no_record no_record inside) (omega arith, omega arith))
+    (λ past. rw (get_or-eq_default empty.records no_record {n = k} (omega (arith, empty_records))) (omega arith, omega arith))
+
+-- Where they fit in a list, they fit at its front.
+pub front_fits : (records : List MoveRecord) (count : ℕ) → Fits records → AllFit (take count records)
+front_fits records count fits k inside =
+    rw (get_or-take count records k no_record (omega (arith, length-take count records))) (fits k)

@@ -1,5 +1,5 @@
 -- The writer's memory while it takes the records one by one. For the code: nothing that is promised speaks of it.
-use Rattle.std.specs.Prelude.{Bool, true, ◌&&◌, List, [], ◌∷◌, ℕ, suc, ◌+◌, min, get_or, set, replicate, ltb, eqb}
+use Rattle.std.specs.Prelude.{Bool, true, ◌<◌, ◌&&◌, List, [], ◌∷◌, ℕ, suc, ◌+◌, min, get_or, set, replicate, ltb, eqb}
 use Rattle.std.specs.Prelude.{Option, Some, None}
 use Rattle.common.specs.Pick.{pick}
 use Rattle.commands.specs.Commands.{length_of}
@@ -12,6 +12,11 @@ use Rattle.writing.specs.declared.taking.Memory.{Memory}
 -- Memory into which no record was taken.
 abbrev pub empty : Memory
 empty = record { records = replicate 12240 no_record; bytes = replicate 2048 0; latest = None; count = 0 }
+
+-- Times and limits of a list's records are numbers of 16 bits.
+abbrev pub Fits : List MoveRecord → Type 0
+Fits records =
+    (k : ℕ) → ((get_or records k no_record).time < 65536) × ((get_or records k no_record).limit < 65536)
 
 -- The bytes that the moves of station u need.
 abbrev pub bytes_of : List ℕ → ℕ → ℕ
