@@ -1,13 +1,11 @@
 // The bytes that each page of the map to be written needs, its `00` counted (specs/Sums.antt).
 
-ghost use Rattle.std.specs.Prelude.{◌≡◌, ◌≤◌, length};
+ghost use Rattle.std.specs.Prelude.{◌≡◌, ◌≤◌, ◌<◌, length, IfSome};
 ghost use Rattle.writing.specs.Sums.{sums_from, sums_of, first_over};
 
 use commands::{STATION, length_of};
+use imaging::stations::PAGE;
 use layout::places::{PAGES, STATIONS};
-
-// The bytes of a page.
-const PAGE: usize = 256;
 
 // The byte of `00`, which each page ends with.
 const END_BYTES: usize = 1;
@@ -29,6 +27,7 @@ pub fn first_full(bytes: &[u16; STATIONS], directory: &[u8], pages: usize) -> Op
     requires stations { length directory.now ≤ 2048 }
     requires pages { pages ≤ 256 }
     ensures page { result ≡ first_over (sums_of bytes.now directory.now) pages }
+    ensures most { IfSome result (λ page. page < pages) }
 {
     let mut sums = [END_BYTES; PAGES];
     add_stations(bytes, directory, &mut sums);
