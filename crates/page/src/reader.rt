@@ -16,7 +16,8 @@ use rules::judged_at;
 
 // Reads page p: good, or the first command at fault. Each station that is named begins a row, and its moves that are
 // open to the strip are laid out there as they are read; the rows stand one behind the other in the page's own room. The
-// stations are placed, so that the one that is due is known by its slot.
+// stations are placed, so that the one that is due is known by its slot. The directory and its places are two parameters
+// with a clause on both, as judged_at takes them: docs/DECISIONS.md names what both functions ask.
 pub fn read_page(
     directory: &[u8],
     places: &[u16],
@@ -41,6 +42,7 @@ pub fn read_page(
     let mut least: usize = 0;
     let fault;
     let mut k = ROOM_FROM + PAGE_MOVES * (p as usize);
+    // A loop whose break yields the fault's offset, left by label from the inner one: document 01 names this form.
     let offset = 'page: loop {
         let station = loop {
             match judged_at(directory, places, past, page, at, due, after, least) {
