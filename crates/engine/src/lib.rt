@@ -15,7 +15,8 @@ use cells::Memory;
 use common::NOBODY;
 use image::{BadPage, directory_of};
 use layout::moves::LAYOUT;
-use layout::places::{PLACES, place};
+use layout::places::{PLACES, STATIONS, place};
+use queue::QUEUE;
 use reference::{Query, refer};
 
 // How a search ended: the number of references made, and that nobody was left to wait, or the bad page.
@@ -64,8 +65,8 @@ pub fn search(query: Query, image: &[u8], memory: &mut Memory, list: &mut [u8]) 
 {
     let mut places = [0u16; PLACES];
     let mut layout = [0u32; LAYOUT];
-    memory.waiting.fill(NOBODY);
-    memory.queue.fill(NOBODY);
+    memory.waiting = [NOBODY; STATIONS];
+    memory.queue = [NOBODY; QUEUE];
     place(directory_of(image), &mut places);
     let source = usize::from(query.source);
     memory.offer(&places, 0, source, 0);

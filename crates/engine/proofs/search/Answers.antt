@@ -1,6 +1,6 @@
 -- The stations are placed by the directory, and only the source is written into cells, keys and queue that are
 -- nobody's. So a search on the image may begin (proofs/Beginning.antt), and the search ends as the run does.
-use Rattle.common.proofs.Ground.{◌≡◌, ap, arith, length, rules}
+use Rattle.common.proofs.Ground.{ap, arith, length}
 use Rattle.image.specs.Bytes.{Bytes}
 use Rattle.image.specs.Image.{directory_of}
 use Rattle.layout.specs.Places.{Placed}
@@ -20,22 +20,14 @@ offer-requires c =
     rw c.directory_of.ensures.part at c.place.ensures.placed in
     let (from, (to, (cost, (room, placed_at)))) =
     begin_asks c.args.query c.args.image.now bytes c.requires.formed c.requires.source placed c.requires.cells in
-    let waiting_size : length c.args.memory.now.waiting ≡ 2048 = search rules in
-    let queue_size : length c.args.memory.now.queue ≡ 272 = search rules in
-    rw (c.fill.ensures.after (λ y e. e), c.fill-2.ensures.after (λ y e. e), waiting_size, queue_size, c.from-source.ensures)
-    (record { from = from; to = to; cost = cost; room = room; placed = placed_at })
+    rw c.from-source.ensures (record { from = from; to = to; cost = cost; room = room; placed = placed_at })
 
 pub run-requires : goal.run-requires
 run-requires c =
     let bytes : Bytes c.args.image.now = λ i. omega (arith, c.type_inv.image i) in
     let placed : Placed (directory_of c.args.image.now) c.place.new.places =
     rw c.directory_of.ensures.part at c.place.ensures.placed in
-    let waiting_size : length c.args.memory.now.waiting ≡ 2048 = search rules in
-    let queue_size : length c.args.memory.now.queue ≡ 272 = search rules in
-    let relaxed =
-    rw (c.fill.ensures.after (λ y e. e), c.fill-2.ensures.after (λ y e. e), waiting_size, queue_size, c.from-source.ensures)
-    at c.offer.ensures.relaxed in
     record {
       begun = begun_image c.args.query c.args.image.now bytes c.requires.formed c.requires.source placed
-          c.requires.cells relaxed c.requires.room;
+          c.requires.cells (rw c.from-source.ensures at c.offer.ensures.relaxed) c.requires.room;
     }

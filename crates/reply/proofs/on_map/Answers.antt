@@ -1,6 +1,6 @@
 -- The engine's search ends as the definition's does; its cells are written into the first N entries of the tables, and
 -- what is handed back is the definition's (`handed_over`, proofs/Ending.antt).
-use Rattle.common.proofs.Ground.{◌≤◌, sym, arith, length, take, length-take, length-take-le}
+use Rattle.common.proofs.Ground.{◌≤◌, sym, arith, rules, length, take, length-take, length-take-le}
 use Rattle.std.specs.Prelude.{is_ok}
 use Rattle.tables.specs.Finishing.{Finished}
 use Rattle.reply.proofs.Checking.{admitted, long_enough}
@@ -72,7 +72,7 @@ finish-reached-requires-clause-cells c =
     simp length-take (omega (arith, c.station_count-n.ensures.value, long_enough _ _ a, few_stations _ _ a, size_of _ _ a)) in
     elim c.match-ended.branch [
       | in-Ok w ↦ rw w.shown-is (omega (arith, shorter, w.cells.ensures.size))
-      | in-Err w ↦ rw w.shown-is tt
+      | in-Err w ↦ rw w.shown-is (search rules)
     ]
 
 pub finish-reached-requires-clause-sizes : goal.finish-reached-requires-clause-sizes
