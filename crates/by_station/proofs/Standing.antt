@@ -6,7 +6,7 @@ use Rattle.common.proofs.Ground.{arith, dec_lt, ℕ_discrete, length, get_or, se
 use Rattle.common.proofs.Ground.{get_or-set_same, get_or-set_other, add-one, sub-zero, length-replicate}
 use Rattle.common.proofs.Cases.{never}
 use Rattle.image.specs.Bytes.{Bytes}
-use Rattle.image.specs.Image.{accepted, station_count, page_count, page_bytes}
+use Rattle.image.specs.Image.{accepted, station_count, page_count, directory_of, page_bytes}
 use Rattle.image.proofs.Heading.{Formed, formed}
 use Rattle.commands.specs.declared.Move.{Move}
 use Rattle.commands.specs.Commands.{length_of}
@@ -15,7 +15,7 @@ use Rattle.whole.specs.Check.{whole_check}
 use Rattle.whole.proofs.Accepted.{wholly}
 use Rattle.move_record.specs.declared.MoveRecord.{MoveRecord}
 use Rattle.roundtrip.specs.Records.{content_in, record_for, records_at, records_from, records_of}
-use Rattle.std.specs.Prelude.{Some, None}
+use Rattle.std.specs.Prelude.{Option, Some, None}
 use Rattle.by_station.specs.Next.{next_move}
 use Rattle.by_station.specs.Reached.{Reached}
 use Rattle.by_station.specs.Standing.{Entered, page_at, records_behind, Standing}
@@ -72,6 +72,22 @@ module _ (image : List ℕ) (whole : whole_check image ≡ accepted) where
         behind = get_or-replicate {A = ℕ} 256 p (length_of 1) 0 (omega (arith, well-formed.pages_most));
         reached = reached_front image p bytes ((wholly image whole).page p h);
       }))
+
+  -- What is read at station u: it is one of the map's, its page, and what stands at the page's offset.
+  module _ (u : ℕ) (directory : List ℕ) (same : directory ≡ directory_of image) where
+    pub read_due : u < length directory → u < station_count image
+    read_due h = omega (arith, ap length same, well-formed.directory)
+
+    pub read_over : length directory ≤ u → station_count image ≤ u
+    read_over h = omega (arith, ap length same, well-formed.directory)
+
+    pub read_page : get_or directory u 0 ≡ page_at image u
+    read_page = ap (λ l. get_or l u 0) same
+
+    pub read_there : (offsets page : List ℕ) {x : Option (Move × ℕ)} → page ≡ page_bytes image (get_or directory u 0)
+        → next_move page (get_or offsets (get_or directory u 0) 0) ≡ x
+        → next_move (page_bytes image (page_at image u)) (get_or offsets (page_at image u) 0) ≡ x
+    read_there offsets page e found = rw (← read_page, ← e) found
 
   module _ (u : ℕ) (offsets : List ℕ) (left : List MoveRecord) (stands : Standing image u offsets left) where
     -- All stations came: nothing is left.

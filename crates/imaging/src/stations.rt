@@ -16,7 +16,7 @@ use layout::places::PAGES;
 use move_record::MoveRecord;
 
 // The bytes of a page.
-const PAGE: usize = 256;
+pub const PAGE: usize = 256;
 
 // A station that was written: how many records it has, and the offset behind its bytes.
 #[derive(Clone, Copy)]
@@ -36,6 +36,7 @@ fn put_command(bytes: &mut [u8], at: usize, code: u8, station: u16)
 }
 
 // Puts the move of a record, and answers the offset behind it.
+#[tactic(auto, using(crate::proofs::Spelling::put_plain, crate::proofs::Spelling::put_limited))]
 fn put_move(bytes: &mut [u8], at: usize, given: MoveRecord) -> usize
     requires room { at + length (spell_move (move_of given) []) ≤ length bytes.old }
     ensures put { Put bytes.old at (spell_move (move_of given) []) bytes.new result }

@@ -1,5 +1,5 @@
 -- One record more that is put or taken, step by step from the front, as the loops go.
-use Rattle.common.proofs.Ground.{◌∙◌, ◌≡◌, ap, refl, sym, arith}
+use Rattle.common.proofs.Ground.{◌∙◌, ◌≡◌, ap, sym, arith}
 use Rattle.common.proofs.Ground.{List, [], ◌∷◌, ◌++◌, ◌+◌, ◌<◌, ◌≤◌, suc, zero, ℕ, add-one, add-suc, suc-add, zero-add}
 use Rattle.common.proofs.Ground.{add-zero, get_or, set, take, drop, take-suc, drop-cons, set_at, append_assoc, length-take-le, length}
 use Rattle.move_record.specs.declared.MoveRecord.{MoveRecord}
@@ -19,10 +19,6 @@ fill_next records list i inside room =
     sym (append_assoc front (r ∷ []) (drop (suc i) list)) ∙
     ap (λ l. l ++ drop (suc i) list) (sym (take-suc records i no_record inside)) ∙
     rw (add-one i)
-
-pub taken_none : (size : ℕ) (m : Memory) (records : List MoveRecord) → taken size m 0 (take 0 records) ≡ m
-unfolding taken
-taken_none size m records = refl
 
 -- The records from the front, the first at index k.
 taken_from : (size : ℕ) (m : Memory) (k : ℕ) (records : List MoveRecord) (i : ℕ) → i < length records

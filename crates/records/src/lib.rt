@@ -19,6 +19,7 @@ use writing::taking::Memory;
 use writing::{WriteRefusal, finish};
 
 // Puts records at the front of a list, each by put_record, which alone writes a lent list.
+#[tactic(auto, using(crate::proofs::Steps::fill_next))]
 fn fill(list: &mut [MoveRecord], records: &[MoveRecord])
     requires room { length records.now ≤ length list.old }
     ensures filled { list.new ≡ records.now ++ drop (length records.now) list.old }
@@ -29,6 +30,7 @@ fn fill(list: &mut [MoveRecord], records: &[MoveRecord])
 }
 
 // Takes the records of a list one by one.
+#[tactic(auto, using(crate::proofs::Steps::taken_next), unfolding(writing::specs::Taking::taken))]
 fn take_all(records: &[MoveRecord], size: u16, memory: &mut Memory)
     ensures taken { memory.new ≡ taken size memory.old 0 records.now }
     ensures fits { (k : ℕ) → k < length records.now

@@ -12,7 +12,7 @@ use Rattle.move_record.specs.Records.{no_record}
 use Rattle.roundtrip.specs.Written.{move_of, moves_for, is_move, is_above, rising_after, rising}
 use Rattle.roundtrip.proofs.Few.{bytes_for}
 use Rattle.writing.specs.declared.taking.Memory.{Memory}
-use Rattle.writing.specs.Taking.{empty, bytes_of, width_for, add_bytes, above_latest, is_next, with_record, taken}
+use Rattle.writing.specs.Taking.{empty, bytes_of, width_for, above_latest, is_next, with_record, taken}
 use Rattle.writing.specs.Taking.{taken_all}
 use Rattle.writing.proofs.Taken.{Next, next_decides, records_length, bytes_length, record_before, record_here, bytes_here}
 use Rattle.writing.proofs.Taken.{bytes_other, taken_next, taken_other, taken_keeps, taken_length, empty_records}
@@ -121,7 +121,7 @@ move_bytes r rest = by_test (eqb r.limit 0)
     by_test true = omega arith
     by_test false = omega arith
 
-added : (sum more rest : ℕ) {now all : ℕ} → now ≡ add_bytes sum more → all ≡ more + rest
+added : (sum more rest : ℕ) {now all : ℕ} → now ≡ min (sum + more) 65535 → all ≡ more + rest
     → min 512 (now + rest) ≡ min 512 (sum + all)
 added sum more rest e f = omega arith
 
@@ -139,8 +139,8 @@ bytes_after size u m i (r ∷ rs) station memory all end =
     (λ here.
     let moves : bytes_for (r ∷ rs) u ≡ width_for r + bytes_for rs u =
     rw (eq-eqb r.from u here) (move_bytes r (spell_moves (moves_for rs u) [])) in
-    let bytes : bytes_of next.bytes u ≡ add_bytes (bytes_of m.bytes u) (width_for r) =
-    subst (λ v. bytes_of next.bytes v ≡ add_bytes (bytes_of m.bytes v) (width_for r)) here
+    let bytes : bytes_of next.bytes u ≡ min (bytes_of m.bytes u + width_for r) 65535 =
+    subst (λ v. bytes_of next.bytes v ≡ min (bytes_of m.bytes v + width_for r) 65535) here
     (bytes_here m i r (omega arith)) in
     added (bytes_of m.bytes u) (width_for r) (bytes_for rs u) bytes moves)
     (λ other. rw (ne_eqb r.from u other, bytes_other m i r u other))

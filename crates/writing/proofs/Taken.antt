@@ -1,7 +1,7 @@
 -- Records taken one by one: what it says of a record that it is taken, what the memory is then, and what taking keeps.
 -- By induction over the records, with the cases of whether the first of them is taken.
 use Rattle.common.proofs.Ground.{◌≡◌, ◌≢◌, refl, ap, ◌∙◌, Bool, true, false, ◌&&◌, ⊎_elim}
-use Rattle.common.proofs.Ground.{List, [], ◌∷◌, ℕ, suc, ◌+◌, ◌*◌, ◌≤◌, ◌<◌, arith, length, get_or, set, length-replicate}
+use Rattle.common.proofs.Ground.{List, [], ◌∷◌, ℕ, suc, ◌+◌, ◌*◌, ◌≤◌, ◌<◌, arith, length, min, get_or, set, length-replicate}
 use Rattle.common.proofs.Ground.{length-set, get_or-set_same, get_or-set_other, ltb, eqb, lt-ltb, eq-eqb, ne_eqb}
 use Rattle.common.proofs.Ground.{ltb-true, eqb-true}
 use Rattle.std.specs.Prelude.{Option, Some, None}
@@ -12,7 +12,7 @@ use Rattle.move_record.specs.Records.{no_record}
 use Rattle.roundtrip.specs.Written.{is_move, is_above}
 use Rattle.roundtrip.proofs.Order.{is_sound, is_above_lem}
 use Rattle.writing.specs.declared.taking.Memory.{Memory}
-use Rattle.writing.specs.Taking.{empty, bytes_of, width_for, add_bytes, above_latest, is_next, with_record, take_of}
+use Rattle.writing.specs.Taking.{empty, bytes_of, width_for, above_latest, is_next, with_record, take_of}
 use Rattle.writing.specs.Taking.{taken, taken_all}
 
 -- Where a map can have so many stations and all records before it were taken, the record's own rule and the latest
@@ -73,7 +73,7 @@ module _ (m : Memory) (i : ℕ) (r : MoveRecord) where
 
   -- the bytes of its own station, and those of another
   pub bytes_here : r.from < length m.bytes
-      → bytes_of (with_record m i r).bytes r.from ≡ add_bytes (bytes_of m.bytes r.from) (width_for r)
+      → bytes_of (with_record m i r).bytes r.from ≡ min (bytes_of m.bytes r.from + width_for r) 65535
   bytes_here inside = get_or-set_same m.bytes r.from _ 0 inside
 
   pub bytes_other : (u : ℕ) → r.from ≢ u → bytes_of (with_record m i r).bytes u ≡ bytes_of m.bytes u

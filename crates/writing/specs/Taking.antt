@@ -20,10 +20,6 @@ bytes_of bytes u = get_or bytes u 0
 abbrev pub width_for : MoveRecord → ℕ
 width_for r = length_of (code_of (move_of r))
 
--- A sum of bytes that grows no further than its entry holds, which is far past a page's.
-abbrev pub add_bytes : ℕ → ℕ → ℕ
-add_bytes sum more = min (sum + more) 65535
-
 -- Whether a record is above the latest one, if there is one.
 abbrev pub above_latest : Option MoveRecord → MoveRecord → Bool
 above_latest None r = true
@@ -33,11 +29,12 @@ above_latest (Some before) r = is_above before r
 abbrev pub is_next : ℕ → Memory → ℕ → MoveRecord → Bool
 is_next size m i r = (ltb size 2049 && eqb m.count i) && (is_move size r && above_latest m.latest r)
 
--- The memory with a record more. Past the number that a map can have a record is measured and not listed.
+-- The memory with a record more. Past the number that a map can have a record is measured and not listed. A sum of bytes
+-- grows no further than its entry holds, which is far past a page's.
 abbrev pub with_record : Memory → ℕ → MoveRecord → Memory
 with_record m i r = record {
   records = pick (ltb i 12240) (set m.records i r) m.records;
-  bytes = set m.bytes r.from (add_bytes (bytes_of m.bytes r.from) (width_for r));
+  bytes = set m.bytes r.from (min (bytes_of m.bytes r.from + width_for r) 65535);
   latest = Some r;
   count = suc i;
 }

@@ -39,6 +39,7 @@ impl From<Refusal> for WriteRefusal {
 }
 
 // Refusals 2 to 5 of the writer, in this order; `room` is the buffer's length.
+#[tactic(auto, using(common::proofs::Ground::tests), unfolding(roundtrip::specs::Written::shape_check))]
 fn check_shape(size: usize, pages: usize, directory: &[u8], room: usize) -> Result<(), Refusal>
     requires counts { (size < 65536) × (pages < 65536) }
     ensures outcome { outcome_of result ≡ shape_check size pages directory.now room }

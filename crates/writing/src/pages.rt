@@ -1,18 +1,17 @@
 // The bytes that each page of the map to be written needs, its `00` counted (specs/Sums.antt).
 
-ghost use Rattle.std.specs.Prelude.{◌≡◌, ◌≤◌, length};
+ghost use Rattle.std.specs.Prelude.{◌≡◌, ◌≤◌, ◌<◌, length, IfSome};
 ghost use Rattle.writing.specs.Sums.{sums_from, sums_of, first_over};
 
 use commands::{STATION, length_of};
+use imaging::stations::PAGE;
 use layout::places::{PAGES, STATIONS};
-
-// The bytes of a page.
-const PAGE: usize = 256;
 
 // The byte of `00`, which each page ends with.
 const END_BYTES: usize = 1;
 
 // To the sum of each page what its stations need is added.
+#[tactic(auto, using(crate::proofs::Sums::sums_turn, crate::proofs::Sums::sums_end))]
 fn add_stations(bytes: &[u16; STATIONS], directory: &[u8], sums: &mut [usize; PAGES])
     requires stations { length directory.now ≤ 2048 }
     ensures summed { sums.new ≡ sums_from bytes.now 0 directory.now sums.old }
@@ -28,6 +27,7 @@ pub fn first_full(bytes: &[u16; STATIONS], directory: &[u8], pages: usize) -> Op
     requires stations { length directory.now ≤ 2048 }
     requires pages { pages ≤ 256 }
     ensures page { result ≡ first_over (sums_of bytes.now directory.now) pages }
+    ensures most { IfSome result (λ page. page < pages) }
 {
     let mut sums = [END_BYTES; PAGES];
     add_stations(bytes, directory, &mut sums);

@@ -8,7 +8,7 @@ use Rattle.image.specs.Image.{refused}
 use Rattle.roundtrip.specs.Written.{said, refused_record, refused_page, written}
 use Rattle.roundtrip.proofs.Drawable.{shape}
 use Rattle.roundtrip.proofs.Fit.{AllFit}
-use Rattle.writing.proofs.Finished.{shape_refuses, bad_record, full_page, full_found, accepted_list}
+use Rattle.writing.proofs.Finished.{shape_refuses, bad_record, full_page, accepted_list}
 use Rattle.writing.proofs.Finished.{refusal_promised, image_promised}
 use Rattle.writing.proofs.finish.Goals as goal
 
@@ -44,12 +44,9 @@ first_full-requires c =
 
 pub overflow_cast-result-in-Some : goal.overflow_cast-result-in-Some
 overflow_cast-result-in-Some c =
-    let took = c.requires.taken in
-    let shaped = sym c.in_ok-check_shape.ensures.outcome in
-    let most = shape c.args.size c.args.pages c.args.directory.now (length c.args.image.now) shaped in
-    let found = full_found c.args.size c.args.memory.now took.list took.taken c.args.pages c.args.directory.now
-    (length c.args.image.now) shaped (omega (arith, took.all)) _ (sym c.first_full.ensures.page ∙ c.in-Some.is) in
-    omega (arith, found.0)
+    let shaped = shape c.args.size c.args.pages c.args.directory.now (length c.args.image.now)
+    (sym c.in_ok-check_shape.ensures.outcome) in
+    omega (arith, c.in-Some.ensures.most)
 
 pub returns-in-Some : goal.returns-in-Some
 returns-in-Some c = record {
