@@ -1,7 +1,8 @@
 -- What was read into a buffer says what the file or input has: a full buffer is its front, and one that is not full has
 -- all of it. So the image and a turn's output follow from the buffer.
 use Rattle.common.proofs.Ground.{◌≡◌, sym, ap, ◌∙◌, Bool, true, false, List, ℕ, ◌≤◌, ◌<◌, arith, length, take}
-use Rattle.common.proofs.Ground.{length-take, take_all, length-take-le, le-leb, lt-leb, eq-eqb, ne_eqb}
+use Rattle.common.proofs.Ground.{length-take, take_all, length-take-le, min, ⊎_elim, le-leb, lt-leb, eq-eqb, ne_eqb}
+use Rattle.common.proofs.Cases.{le-or-lt}
 use Rattle.text.specs.Text.{ascii}
 use Rattle.line.specs.Writing.{Fronted}
 use Rattle.line.proofs.Fronting.{fronted_none}
@@ -30,6 +31,13 @@ module _ (file buffer : List ℕ) (size : ℕ) (room : length buffer ≡ 63493) 
 
   pub image_full : 63493 ≤ size → buffer ≡ map_of file
   image_full full = read_full file buffer size (omega arith) read ∙ ap (λ n. take n file) room
+
+  pub image_taken : (n : ℕ) → n ≡ min size 63493 → take n buffer ≡ map_of file
+  image_taken n is =
+      ⊎_elim
+      (λ full. take_all n buffer (omega arith) ∙ image_full full)
+      (λ few. let all : n ≡ size = omega arith in rw all image_part)
+      (le-or-lt 63493 size)
 
 -- A turn whose output is known.
 turned_by : {image input before after text : List ℕ} {printed : ℕ} {more : Bool} → turn_of image input ≡ text

@@ -12,7 +12,7 @@ ghost use Rattle.coil.specs.Program.{line_of, record_line};
 
 use line::lines::{put_accepted, put_refusal};
 use line::records::{Record, record_of};
-use reply::Answer;
+use reply::{Found, TurnedDown};
 use search::own::{TABLE, df_times};
 
 pub mod program;
@@ -21,7 +21,7 @@ pub mod program;
 pub const ROOM: usize = 160;
 
 // The search from a station for a strip, on tables with room for every map.
-fn search_from(image: &[u8], station: u16, strip: u16) -> Answer
+fn search_from(image: &[u8], station: u16, strip: u16) -> Result<Found, TurnedDown>
     ensures reply { reply_of result ≡ (searched df_search (asked image.now station strip) blank).reply }
 {
     let mut times = [0u32; TABLE];
@@ -29,15 +29,15 @@ fn search_from(image: &[u8], station: u16, strip: u16) -> Answer
 }
 
 // The line of a record whose search answered so.
-fn put_line(line: &mut [u8], parts: Record, answer: Answer) -> usize
+fn put_line(line: &mut [u8], parts: Record, answer: Result<Found, TurnedDown>) -> usize
     requires room { line_room ≤ length line.old }
     ensures put { Fronted (line_of parts.coil parts.length parts.station (reply_of answer))
         line.old line.new result }
     ensures within { result ≤ line_room }
 {
     match answer {
-        Answer::Accepted { count, reached } => put_accepted(line, parts, count, reached),
-        Answer::Refused { refusal, count: _ } => put_refusal(line, parts.coil, refusal.number),
+        Ok(Found { count, reached }) => put_accepted(line, parts, count, reached),
+        Err(down) => put_refusal(line, parts.coil, down.refusal.number()),
     }
 }
 

@@ -14,8 +14,9 @@ pub const FILE: usize = 63493;
 // The bytes of a record.
 pub const RECORD: usize = 8;
 
-// What a turn left: so many bytes to print at the front of the line's buffer, and whether another turn follows.
-#[derive(Clone, Copy)]
+// What a turn left: so many bytes to print at the front of the line's buffer, and whether another turn follows. Turns of
+// either kind have bytes to print, so that no Option says it.
+#[derive(Clone, Copy, Debug, PartialEq, Eq)]
 pub struct Turn {
     pub size: usize,
     pub more: bool,
@@ -25,11 +26,7 @@ pub struct Turn {
 pub fn image_of(buffer: &[u8; FILE], size: usize) -> &[u8]
     ensures image { (file : List ℕ) → ReadFrom file buffer.now size → result.now ≡ map_of file }
 {
-    let file: &[u8] = buffer;
-    if size < file.len() {
-        return &file[..size];
-    }
-    file
+    &buffer[..size.min(FILE)]
 }
 
 // Puts what a turn prints at the front of the line's buffer, for the input of which so many bytes were read.
@@ -38,23 +35,18 @@ pub fn answer_turn(image: &[u8], bytes: &[u8; RECORD], size: usize, line: &mut [
         Turned image.now input line.old line.new result.size result.more }
     ensures fits { result.size ≤ length line.new }
 {
-    let read: &[u8] = bytes;
-    if size >= read.len() {
-        let printed = answer_record(image, bytes, line);
-        return Turn {
-            size: printed,
-            more: true,
-        };
-    }
-    if size == 0 {
-        return Turn {
+    match size {
+        0 => Turn {
             size: 0,
             more: false,
-        };
-    }
-    let printed = put_text(line, 0, b"short\n");
-    Turn {
-        size: printed,
-        more: false,
+        },
+        1..RECORD => Turn {
+            size: put_text(line, 0, b"short\n"),
+            more: false,
+        },
+        _ => Turn {
+            size: answer_record(image, bytes, line),
+            more: true,
+        },
     }
 }

@@ -1,4 +1,5 @@
-// Text and decimal numbers put into a line.
+// Text and decimal numbers put into a line. The line is a lent slice with a place beside it, and the digits are spelled
+// here: what std's `write!` writes is promised only where it succeeds, and a line that has room for them all takes them.
 
 #![tactic(auto)]
 

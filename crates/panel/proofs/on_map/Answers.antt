@@ -11,29 +11,29 @@ use Rattle.panel.proofs.on_map.Goals as goal
 pub bounds-times-station : goal.bounds-times-station
 bounds-times-station c =
     let accepts : (found (asked c.args.image.now c.args.source c.args.strip)).reply.outcome ≡ accepted =
-    sym (ap (λ (r : Reply). r.outcome) c.in-Accepted.ensures.reply) in
+    sym (ap (λ (r : Reply). r.outcome) c.in-Ok.ensures.reply) in
     omega (arith, few_on_map (asked c.args.image.now c.args.source c.args.strip) accepts, c.requires.inside)
 
-pub returns-in-Accepted : goal.returns-in-Accepted
-returns-in-Accepted c =
+pub returns-in-Ok : goal.returns-in-Ok
+returns-in-Ok c =
     let accepts : (found (asked c.args.image.now c.args.source c.args.strip)).reply.outcome ≡ accepted =
-    sym (ap (λ (r : Reply). r.outcome) c.in-Accepted.ensures.reply) in
+    sym (ap (λ (r : Reply). r.outcome) c.in-Ok.ensures.reply) in
     let few = few_on_map (asked c.args.image.now c.args.source c.args.strip) accepts in
     record {
       value = c.of_time.ensures.value ∙
           rw (
             answer_on_map (asked c.args.image.now c.args.source c.args.strip) c.args.station c.requires.inside,
             accepts,
-            ← c.in-Accepted.ensures.times,
+            ← c.in-Ok.ensures.times,
             any-default c.df_times.new.times c.args.station 0 no_time
                 (omega (arith, few, c.requires.inside, c.df_times.auto.times)),
           );
     }
 
-pub returns-in-Refused : goal.returns-in-Refused
-returns-in-Refused c = record {
+pub returns-in-Err : goal.returns-in-Err
+returns-in-Err c = record {
   value = rw (
     answer_on_map (asked c.args.image.now c.args.source c.args.strip) _ c.requires.inside,
-    ← c.in-Refused.ensures.reply,
+    ← c.in-Err.ensures.reply,
   );
 }
