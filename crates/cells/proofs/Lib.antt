@@ -1,4 +1,3 @@
--- The laws of a cell: the rule of document 01, and what `offer` has by its callees (Cells); and of a move relaxed,
--- which callers cite (Relaxed).
+-- The laws of a cell, the rule of document 01 (Cells), and of a move relaxed, which callers cite (Relaxed).
 pub mod Cells
 pub mod Relaxed

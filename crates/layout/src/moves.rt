@@ -4,7 +4,8 @@ ghost use Rattle.layout.specs.Rows.{begin_of, end_of};
 
 use crate::places::STATIONS;
 
-// The entries of `layout`: the begins of the stations' rows, then their ends, then room for the moves of each page.
+// The entries of `layout`: the begins of the stations' rows, then their ends, then room for the moves of each page. One
+// table and no struct of three: a reader takes any slice that reaches as far as it reads (the clauses `inside`).
 pub const END_FROM: usize = STATIONS;
 
 pub const ROOM_FROM: usize = 4096;

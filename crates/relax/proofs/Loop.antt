@@ -14,9 +14,6 @@ pub record Going (places rows : List ℕ) (u held : ℕ) (first : Memory) (i : �
   pub room : Room places now
 
 module _ {places rows : List ℕ} {u held : ℕ} {first : Memory} where
-  pub going_start : Room places first → Targets places rows → Going places rows u held first 0 first
-  going_start room targets = record { rest = λ r. r; targets = targets; room = room }
-
   pub going_end : {i : ℕ} {now : Memory} → Going places rows u held first i now → length rows ≤ i
       → Relaxing places u held rows first now
   going_end {i} g h = g.rest (rw (drop_of_length-le rows h) none)

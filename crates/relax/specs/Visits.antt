@@ -1,5 +1,5 @@
 -- The moves of a station relaxed on a search's working memory, and a station visited.
-use Rattle.std.specs.Prelude.{◌≡◌, List, [], ◌∷◌, ℕ, ◌+◌, ◌-◌, ◌/◌, ◌%◌, ◌≤◌, length, get_or, set, take, drop}
+use Rattle.std.specs.Prelude.{◌≡◌, List, [], ◌∷◌, ℕ, ◌+◌, ◌/◌, ◌%◌, ◌≤◌, length, get_or, set}
 use Rattle.common.specs.Numbers.{nobody}
 use Rattle.common.specs.Costs.{cost}
 use Rattle.layout.specs.Places.{slot_of}
@@ -32,10 +32,6 @@ pub record Visited (places layout : List ℕ) (u : ℕ) (before after : Memory) 
 abbrev pub Targets : List ℕ → List ℕ → Type 0
 Targets places [] = Unit {0}
 Targets places (row ∷ rows) = PlacedAt places (row % 2048) × Targets places rows
-
--- The rows of a layout from `lo` up to `hi`.
-abbrev pub rows_between : List ℕ → ℕ → ℕ → List ℕ
-rows_between layout lo hi = take (hi - lo) (drop lo layout)
 
 -- The row of station u lies inside the layout, and its moves lead to such stations.
 pub record LaidOut (places layout : List ℕ) (u : ℕ) : Type 0 where

@@ -6,7 +6,7 @@
 ghost use Rattle.std.specs.Prelude.{◌≡◌, ◌+◌, ◌/◌, ◌<◌, ◌≤◌, length, get_or};
 ghost use Rattle.layout.specs.Rows.{row_of};
 ghost use Rattle.cells.specs.Cells.{most_cost, Room, PlacedAt};
-ghost use Rattle.relax.specs.Visits.{longest, Relaxing, Visited, Targets, rows_between, LaidOut};
+ghost use Rattle.relax.specs.Visits.{longest, Relaxing, Visited, Targets, LaidOut};
 
 use cells::Memory;
 use common::{NOBODY, TENTH};
@@ -39,6 +39,7 @@ pub fn relax_moves(u: usize, places: &[u16], layout: &[u32], memory: &mut Memory
         (row_of layout.now u) memory.old memory.new }
 {
     let cost = memory.cells[u] / (STATIONS as u64);
+    // `get`, as `LaidOut` bounds where a row ends, and not where it begins.
     let row = layout
         .get(begin_of(layout, u)..end_of(layout, u))
         .unwrap_or(&[]);

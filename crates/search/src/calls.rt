@@ -1,7 +1,8 @@
 // The two public searches. Each takes an image, a source, the length of a strip in decimetres and five lent tables:
-// times, moves, predecessors, marks and page list, with an entry for each station at least. What they promise is one
-// record (specs/Promises.antt): the whole outcome, refusals too (reply/specs/Reply.antt), demands 2 and 3, that every
-// chain of predecessors ends at the source, and that a longer strip is no faster.
+// times, moves, predecessors, marks and page list, with an entry for each station at least (five slices: why, is said at
+// `reply::on_map`). What they promise is one record (specs/Promises.antt): the whole outcome, refusals too
+// (reply/specs/Reply.antt), demands 2 and 3, that every chain of predecessors ends at the source, and that a longer
+// strip is no faster.
 
 ghost use Rattle.std.specs.Prelude.{◌≡◌};
 ghost use Rattle.net.specs.Run.{search_of};

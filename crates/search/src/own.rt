@@ -11,7 +11,12 @@ use reply::{Found, TurnedDown};
 // The entries of a table with room for every map.
 pub const TABLE: usize = 2048;
 
-pub fn df_times(image: &[u8], source: u16, strip: u16, times: &mut [u32]) -> Result<Found, TurnedDown>
+pub fn df_times(
+    image: &[u8],
+    source: u16,
+    strip: u16,
+    times: &mut [u32],
+) -> Result<Found, TurnedDown>
     ensures reply { reply_of result ≡
         (searched df_search (asked image.now source strip) (roomy times.old)).reply }
     ensures times { times.new ≡

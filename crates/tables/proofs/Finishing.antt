@@ -1,6 +1,6 @@
 -- Station by station the entries that the cells show are written, and a table all of whose entries are written is the
 -- list of these.
-use Rattle.common.proofs.Ground.{◌≡◌, refl, sym, ◌∙◌, false, true, dite, List, ℕ, zero, suc, ◌+◌, ◌≤◌, ◌<◌, arith}
+use Rattle.common.proofs.Ground.{◌≡◌, refl, sym, ◌∙◌, false, dite, List, ℕ, zero, suc, ◌+◌, ◌≤◌, ◌<◌, arith}
 use Rattle.common.proofs.Ground.{ℕ_discrete, add-one, length, get_or, set, replicate, length-replicate}
 use Rattle.common.proofs.Ground.{get_or-replicate, get_or-set_same, get_or-set_other, ext_get_or, ltb}
 use Rattle.common.specs.Numbers.{nobody, no_time, no_moves, no_pred}
@@ -52,11 +52,6 @@ module _ {cells t w p : List ℕ} {r n : ℕ} (f : Finishing cells n t w p r) wh
     preds = shows_more _ n p f.preds lp;
     reached = rw add-one (omega (arith, f.reached));
   }
-
-  -- All are written, and the marks cleared.
-  pub finishing_end : (m : List ℕ) → Shows (λ v. 0) n m → Finished true cells n t w p m r
-  finishing_end m cleared =
-      record { times = f.times; moves = f.moves; preds = f.preds; marks = cleared; reached = f.reached }
 
 -- Where a bad page ended the search every cell shows nothing, and nobody is reached.
 none_reached : (cells : List ℕ) (n : ℕ) → 0 ≡ count (λ v. ltb (cost_in nobody) no_cost) n

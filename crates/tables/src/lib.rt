@@ -1,5 +1,5 @@
 // The tables that a search is lent, written at its end: the times, moves and predecessors that the engine leaves in
-// cells, and the marks, in windows that have an entry for each station.
+// cells, and the marks, in windows that have an entry for each station (four slices: why, is said at `reply::on_map`).
 
 #![tactic(auto)]
 
