@@ -1,7 +1,8 @@
 -- How far a page is read: at its front, past a station that is on another page, behind the station that is due, and
 -- behind each of its moves. What is left is spelled at the offset, so that the command there is known from it.
 use Rattle.common.proofs.Ground.{◌≡◌, ◌≢◌, refl, ap, sym, ◌∙◌, List, [], ◌∷◌, ℕ, ◌+◌, ◌≤◌, ◌<◌}
-use Rattle.common.proofs.Ground.{arith, length, get_or, drop, length-drop, drop-drop, drop-cons, add-one, eq-eqb, ne_eqb}
+use Rattle.common.proofs.Ground.{arith, length, get_or, drop, length-drop, drop-drop, drop-cons, add-one, eq-eqb}
+use Rattle.common.proofs.Ground.{ne_eqb}
 use Rattle.common.proofs.Cases.{never}
 use Rattle.commands.specs.declared.Move.{Move}
 use Rattle.commands.specs.Commands.{Command, End, Station, MoveTo, Limited, Fault, length_of, command_at}

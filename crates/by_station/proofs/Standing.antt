@@ -2,7 +2,8 @@
 -- left; and where a station has no more moves, its page is entered anew and the walk stands at the next station.
 use Rattle.common.proofs.Ground.{◌≡◌, ◌≢◌, refl, ap, sym, ◌∙◌, dite, List, [], ◌∷◌, ◌++◌, map, ℕ, zero, suc, ◌+◌, ◌-◌}
 use Rattle.common.proofs.Ground.{◌≤◌, ◌<◌}
-use Rattle.common.proofs.Ground.{arith, dec_lt, ℕ_discrete, length, get_or, set, length-set, replicate, get_or-replicate}
+use Rattle.common.proofs.Ground.{arith, dec_lt, ℕ_discrete, length, get_or, set, length-set, replicate}
+use Rattle.common.proofs.Ground.{get_or-replicate}
 use Rattle.common.proofs.Ground.{get_or-set_same, get_or-set_other, add-one, sub-zero, length-replicate}
 use Rattle.common.proofs.Cases.{never}
 use Rattle.image.specs.Bytes.{Bytes}

@@ -1,6 +1,7 @@
 -- Where a walk of an image's records stands: at a station, and on each page at an offset. For the code: nothing that is
 -- promised speaks of it.
-use Rattle.std.specs.Prelude.{◌≡◌, ◌≢◌, List, [], ◌∷◌, ◌++◌, map, ℕ, ◌+◌, ◌-◌, ◌≤◌, ◌<◌, length, get_or, Option, Some, None}
+use Rattle.std.specs.Prelude.{◌≡◌, ◌≢◌, List, [], ◌∷◌, ◌++◌, map, ℕ, ◌+◌, ◌-◌, ◌≤◌, ◌<◌, length, get_or, Option, Some}
+use Rattle.std.specs.Prelude.{None}
 use Rattle.image.specs.Image.{station_count, page_count, directory_of}
 use Rattle.commands.specs.declared.Move.{Move}
 use Rattle.commands.specs.Commands.{length_of}

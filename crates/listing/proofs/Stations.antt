@@ -1,7 +1,8 @@
 -- The records of a wholly good image are kept station by station: each page is read up to the stations that come, and
 -- what is kept are the records of those that came.
 use Rattle.common.proofs.Ground.{◌≡◌, refl, ap, sym, ◌∙◌, dite, List, [], ℕ, ◌+◌, ◌≤◌, ◌<◌, arith, ℕ_discrete}
-use Rattle.common.proofs.Ground.{length, length-append, get_or, set, length-set, replicate, take, get_or-replicate, get_or-set_same}
+use Rattle.common.proofs.Ground.{length, length-append, get_or, set, length-set, replicate, take, get_or-replicate}
+use Rattle.common.proofs.Ground.{get_or-set_same}
 use Rattle.common.proofs.Ground.{get_or-set_other}
 use Rattle.image.specs.Bytes.{Bytes}
 use Rattle.image.specs.Image.{accepted, station_count, page_count, directory_of}

@@ -1,7 +1,8 @@
 -- One record more that is put or taken, step by step from the front, as the loops go.
 use Rattle.common.proofs.Ground.{◌∙◌, ◌≡◌, ap, sym, arith}
 use Rattle.common.proofs.Ground.{List, [], ◌∷◌, ◌++◌, ◌+◌, ◌<◌, ◌≤◌, suc, zero, ℕ, add-one, add-suc, suc-add, zero-add}
-use Rattle.common.proofs.Ground.{add-zero, get_or, set, take, drop, take-suc, drop-cons, set_at, append_assoc, length-take-le, length}
+use Rattle.common.proofs.Ground.{add-zero, get_or, set, take, drop, take-suc, drop-cons, set_at, append_assoc}
+use Rattle.common.proofs.Ground.{length-take-le, length}
 use Rattle.move_record.specs.declared.MoveRecord.{MoveRecord}
 use Rattle.move_record.specs.Records.{no_record}
 use Rattle.writing.specs.declared.taking.Memory.{Memory}

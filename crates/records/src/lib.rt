@@ -3,14 +3,13 @@
 
 #![tactic(auto)]
 
-ghost use Rattle.std.specs.Prelude.{◌≡◌, ◌++◌, ◌≤◌, ◌<◌, ℕ, length, drop, get_or};
-ghost use Rattle.move_record.specs.Records.{no_record};
+ghost use Rattle.std.specs.Prelude.{◌≡◌, ◌++◌, ◌≤◌, length, drop};
 ghost use Rattle.roundtrip.specs.Records.{listing};
 ghost use Rattle.roundtrip.specs.Written.{writing};
 ghost use Rattle.roundtrip.specs.Promises.{ReadPromised, WritePromised};
 ghost use Rattle.listing.specs.Found.{outcome_in, count_in};
 ghost use Rattle.writing.specs.Answers.{outcome_of_write};
-ghost use Rattle.writing.specs.Taking.{taken};
+ghost use Rattle.writing.specs.Taking.{Fits, taken};
 
 use image::Refusal;
 use listing::keep_records;
@@ -33,8 +32,7 @@ fn fill(list: &mut [MoveRecord], records: &[MoveRecord])
 #[tactic(auto, using(crate::proofs::Steps::taken_next), unfolding(writing::specs::Taking::taken))]
 fn take_all(records: &[MoveRecord], size: u16, memory: &mut Memory)
     ensures taken { memory.new ≡ taken size memory.old 0 records.now }
-    ensures fits { (k : ℕ) → k < length records.now
-        → ((get_or records.now k no_record).time < 65536) × ((get_or records.now k no_record).limit < 65536) }
+    ensures fits { Fits memory.old.records → Fits memory.new.records }
 {
     // An index loop: record_at alone reads a lent list.
     for i in 0..records.len() {

@@ -14,7 +14,8 @@ use Rattle.roundtrip.proofs.Few.{bytes_for}
 use Rattle.writing.specs.declared.taking.Memory.{Memory}
 use Rattle.writing.specs.Taking.{empty, bytes_of, width_for, above_latest, is_next, with_record, taken}
 use Rattle.writing.specs.Taking.{taken_all}
-use Rattle.writing.proofs.Taken.{Next, next_decides, records_length, bytes_length, record_before, record_here, bytes_here}
+use Rattle.writing.proofs.Taken.{Next, next_decides, records_length, bytes_length, record_before, record_here}
+use Rattle.writing.proofs.Taken.{bytes_here}
 use Rattle.writing.proofs.Taken.{bytes_other, taken_next, taken_other, taken_keeps, taken_length, empty_records}
 use Rattle.writing.proofs.Taken.{empty_bytes}
 

@@ -1,13 +1,15 @@
 -- What the writer promises, by its answer: each refusal, and the image. The records that are kept, and the sums of the
 -- pages, say of the list that was taken what the papers say (proofs/Counted.antt, proofs/Sums.antt).
 use Rattle.common.proofs.Ground.{◌≡◌, ap, sym, ◌∙◌, List, ℕ, ◌≤◌, ◌<◌}
-use Rattle.common.proofs.Ground.{min, arith, length, take, Bool, true, false, ltb, ltb-true, ltb-false, lt-ltb, le-ltb, refl}
+use Rattle.common.proofs.Ground.{min, arith, length, take, Bool, true, false, ltb, ltb-true, ltb-false, lt-ltb, le-ltb}
+use Rattle.common.proofs.Ground.{refl}
 use Rattle.common.proofs.Cases.{never}
 use Rattle.std.specs.Prelude.{cond, Option, Some, None}
 use Rattle.image.specs.Image.{Place, accepted, refused}
 use Rattle.move_record.specs.declared.MoveRecord.{MoveRecord}
 use Rattle.roundtrip.specs.Written.{WriteOutcome, said, refused_record, refused_page, writing, written, rising}
-use Rattle.roundtrip.specs.Written.{first_full, shape_check, records_check, after_shape, write_check, write_call, filled_in}
+use Rattle.roundtrip.specs.Written.{first_full, shape_check, records_check, after_shape, write_check, write_call}
+use Rattle.roundtrip.specs.Written.{filled_in}
 use Rattle.roundtrip.specs.Promises.{WritePromised}
 use Rattle.roundtrip.proofs.Drawable.{shape, drawable, rising_most}
 use Rattle.roundtrip.proofs.Few.{few_records, bytes_for}

@@ -1,5 +1,6 @@
 -- The bytes that the pages need, summed station by station. For the code: nothing that is promised speaks of them.
-use Rattle.std.specs.Prelude.{List, [], ◌∷◌, ℕ, suc, ◌+◌, ◌-◌, ◌^◌, min, take, get_or, set, replicate, ltb, Option, position}
+use Rattle.std.specs.Prelude.{List, [], ◌∷◌, ℕ, suc, ◌+◌, ◌-◌, ◌^◌, min, take, get_or, set, replicate, ltb, Option}
+use Rattle.std.specs.Prelude.{position}
 use Rattle.writing.specs.Taking.{bytes_of}
 
 -- The pages' sums with what station u needs, its `01` and its moves, added to that of its page.

@@ -1,5 +1,6 @@
 -- The writer's memory while it takes the records one by one. For the code: nothing that is promised speaks of it.
-use Rattle.std.specs.Prelude.{Bool, true, ◌&&◌, List, [], ◌∷◌, ℕ, suc, ◌+◌, min, get_or, set, replicate, ltb, eqb, Option, Some, None}
+use Rattle.std.specs.Prelude.{Bool, true, ◌<◌, ◌&&◌, List, [], ◌∷◌, ℕ, suc, ◌+◌, min, get_or, set, replicate, ltb, eqb}
+use Rattle.std.specs.Prelude.{Option, Some, None}
 use Rattle.common.specs.Pick.{pick}
 use Rattle.commands.specs.Commands.{length_of}
 use Rattle.page.specs.Good.{code_of}
@@ -11,6 +12,11 @@ use Rattle.writing.specs.declared.taking.Memory.{Memory}
 -- Memory into which no record was taken.
 abbrev pub empty : Memory
 empty = record { records = replicate 12240 no_record; bytes = replicate 2048 0; latest = None; count = 0 }
+
+-- Times and limits of a list's records are numbers of 16 bits.
+abbrev pub Fits : List MoveRecord → Type 0
+Fits records =
+    (k : ℕ) → ((get_or records k no_record).time < 65536) × ((get_or records k no_record).limit < 65536)
 
 -- The bytes that the moves of station u need.
 abbrev pub bytes_of : List ℕ → ℕ → ℕ
@@ -29,8 +35,8 @@ above_latest (Some before) r = is_above before r
 abbrev pub is_next : ℕ → Memory → ℕ → MoveRecord → Bool
 is_next size m i r = (ltb size 2049 && eqb m.count i) && (is_move size r && above_latest m.latest r)
 
--- The memory with a record more. Past the number that a map can have a record is measured and not listed. A sum of bytes
--- grows no further than its entry holds, which is far past a page's.
+-- The memory with a record more. Past the number that a map can have a record is measured and not listed. A sum of
+-- bytes grows no further than its entry holds, which is far past a page's.
 abbrev pub with_record : Memory → ℕ → MoveRecord → Memory
 with_record m i r = record {
   records = pick (ltb i 12240) (set m.records i r) m.records;

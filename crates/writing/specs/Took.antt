@@ -1,17 +1,15 @@
 -- What the writer's memory comes from: so many records of a list were taken into it. For the code: nothing that is
 -- promised speaks of it.
-use Rattle.std.specs.Prelude.{◌≡◌, List, ℕ, ◌<◌, length, get_or}
+use Rattle.std.specs.Prelude.{◌≡◌, List, ℕ, ◌<◌, length}
 use Rattle.move_record.specs.declared.MoveRecord.{MoveRecord}
-use Rattle.move_record.specs.Records.{no_record}
 use Rattle.writing.specs.declared.taking.Memory.{Memory}
-use Rattle.writing.specs.Taking.{taken_all}
+use Rattle.writing.specs.Taking.{Fits, taken_all}
 
--- The list of so many records, of which those that were taken are in this memory; and what is known of its numbers, and
--- of how many were taken.
+-- The list of so many records, of which those that were taken are in this memory; what the type of those that are listed
+-- says of their numbers; and that as many as were taken can be counted.
 pub record Took (memory : Memory) (records size : ℕ) : Type 0 where
   pub list : List MoveRecord
   pub all : length list ≡ records
   pub taken : memory ≡ taken_all size list
-  pub fits : (k : ℕ) → k < length list
-      → ((get_or list k no_record).time < 65536) × ((get_or list k no_record).limit < 65536)
+  pub fits : Fits memory.records
   pub few : memory.count < 4294967296

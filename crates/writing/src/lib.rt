@@ -1,5 +1,5 @@
-// The writer's work (02, C-16): a record taken into memory (taking.rt), the bytes that the pages need (pages.rt), and the
-// image written of what was taken. No lent list of records is seen here.
+// The writer's work (02, C-16): a record taken into memory (taking.rt), the bytes that the pages need (pages.rt), and
+// the image written of what was taken. No lent list of records is seen here.
 
 #![tactic(auto)]
 

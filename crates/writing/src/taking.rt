@@ -2,7 +2,7 @@
 
 ghost use Rattle.std.specs.Prelude.{◌≡◌, ◌≤◌, ◌<◌, take};
 ghost use Rattle.roundtrip.specs.Written.{is_move, is_above};
-ghost use Rattle.writing.specs.Taking.{empty, take_of, width_for, is_next, with_record};
+ghost use Rattle.writing.specs.Taking.{Fits, empty, take_of, width_for, is_next, with_record};
 
 use commands::{LIMITED, MOVE, length_of};
 use layout::places::STATIONS;
@@ -68,6 +68,7 @@ impl Memory {
         requires room { i < 18446744073709551615 }
         requires station { r.from < 2048 }
         ensures kept { self.new ≡ with_record self.old i r }
+        ensures fits { (r.time < 65536) × (r.limit < 65536) }
     {
         let from = r.from as usize;
         self.bytes[from] = self.bytes[from].saturating_add(width_for(r));
@@ -84,7 +85,7 @@ impl Memory {
     pub fn take(&mut self, i: usize, size: u16, r: MoveRecord)
         requires room { i < 18446744073709551615 }
         ensures taken { self.new ≡ take_of size self.old i r }
-        ensures fits { (r.time < 65536) × (r.limit < 65536) }
+        ensures fits { Fits self.old.records → Fits self.new.records }
     {
         if self.is_next(i, size, r) {
             self.keep(i, r);

@@ -7,10 +7,12 @@ use Rattle.by_station.proofs.next_move.Goals as goal
 
 pub overflow_add-result : goal.overflow_add-result
 overflow_add-result c =
-    let ends = (stands _ _ (sym c.command_at.ensures.value ∙ ap command_in (c.in-Ok-MoveTo.is ∙ ap Ok c.in-Ok-MoveTo.field-0-is))).ends in
+    let is = c.in-Ok-MoveTo.is ∙ ap Ok c.in-Ok-MoveTo.field-0-is in
+    let ends = (stands _ _ (sym c.command_at.ensures.value ∙ ap command_in is)).ends in
     omega (arith, c.length_of.ensures.value)
 
 pub overflow_add-result-in-Ok-Limited : goal.overflow_add-result-in-Ok-Limited
 overflow_add-result-in-Ok-Limited c =
-    let ends = (stands _ _ (sym c.command_at.ensures.value ∙ ap command_in (c.in-Ok-Limited.is ∙ ap Ok c.in-Ok-Limited.field-0-is))).ends in
+    let is = c.in-Ok-Limited.is ∙ ap Ok c.in-Ok-Limited.field-0-is in
+    let ends = (stands _ _ (sym c.command_at.ensures.value ∙ ap command_in is)).ends in
     omega (arith, c.length_of-in-Ok-Limited.ensures.value)

@@ -1,8 +1,10 @@
 -- The loop over the stations: each page has what it says of the stations so far, and zeros. A station's bytes go behind
 -- what its page says, for which there is room, since no page says more at the end than fits.
 use Rattle.common.proofs.Ground.{◌≡◌, ◌≢◌, ap, sym, ◌∙◌, dite, List, ◌++◌, ℕ, suc, ◌+◌, ◌-◌, ◌*◌, ◌/◌, ◌<◌, ◌≤◌, arith}
-use Rattle.common.proofs.Ground.{ℕ_discrete, add-one, zero-add, length, get_or, take, set, replicate, length-set, dec_lt}
-use Rattle.common.proofs.Ground.{get_or-eq_default, length-replicate, get_or-replicate, get_or-set_same, get_or-set_other}
+use Rattle.common.proofs.Ground.{ℕ_discrete, add-one, zero-add, length, get_or, take, set, replicate, length-set}
+use Rattle.common.proofs.Ground.{dec_lt}
+use Rattle.common.proofs.Ground.{get_or-eq_default, length-replicate, get_or-replicate, get_or-set_same}
+use Rattle.common.proofs.Ground.{get_or-set_other}
 use Rattle.common.proofs.Ground.{length-append, take-length, drop}
 use Rattle.common.specs.Window.{placed}
 use Rattle.move_record.specs.declared.MoveRecord.{MoveRecord}

@@ -2,7 +2,8 @@
 -- none to the others, so that a page says no more of some stations than of all. A page that says all is the page that
 -- is written. By what a directory's two parts give (`said_parts`).
 use Rattle.common.proofs.Ground.{◌≡◌, ◌≢◌, refl, ap, sym, ◌∙◌, dite, List, [], ◌∷◌, ◌++◌, append-nil, map, map-append}
-use Rattle.common.proofs.Ground.{ℕ, suc, ◌+◌, ◌-◌, ◌<◌, ◌≤◌, arith, ℕ_discrete, add-zero, zero-add, length, get_or, take}
+use Rattle.common.proofs.Ground.{ℕ, suc, ◌+◌, ◌-◌, ◌<◌, ◌≤◌, arith, ℕ_discrete, add-zero, zero-add, length, get_or}
+use Rattle.common.proofs.Ground.{take}
 use Rattle.common.proofs.Ground.{drop, replicate, length-append, length-take-le, take-suc, length-replicate, eq-eqb}
 use Rattle.common.proofs.Ground.{ne_eqb}
 use lib.ListN.{take-append-drop}

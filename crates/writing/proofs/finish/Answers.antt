@@ -8,6 +8,7 @@ use Rattle.image.specs.Image.{refused}
 use Rattle.roundtrip.specs.Written.{said, refused_record, refused_page, written}
 use Rattle.roundtrip.proofs.Drawable.{shape}
 use Rattle.roundtrip.proofs.Fit.{AllFit}
+use Rattle.writing.proofs.Taken.{front_fits}
 use Rattle.writing.proofs.Finished.{shape_refuses, bad_record, full_page, accepted_list}
 use Rattle.writing.proofs.Finished.{refusal_promised, image_promised}
 use Rattle.writing.proofs.finish.Goals as goal
@@ -83,11 +84,7 @@ returns c = record {
       let ready = accepted_list c.args.size c.args.memory.now list took c.args.pages c.args.directory.now
       (length c.args.image.now) (sym c.in_ok-check_shape.ensures.outcome) (omega (arith, c.if-memory-records.false))
       (sym c.first_full.ensures.page ∙ c.in_default.is) in
-      let given = c.requires.taken in
-      let kept = accepted_list c.args.size c.args.memory.now given.list given.taken c.args.pages c.args.directory.now
-      (length c.args.image.now) (sym c.in_ok-check_shape.ensures.outcome) (omega (arith, given.all))
-      (sym c.first_full.ensures.page ∙ c.in_default.is) in
-      let fit : AllFit list = subst AllFit (sym kept.list_kept ∙ ready.list_kept) given.fits in
+      let fit : AllFit list = subst AllFit ready.list_kept (front_fits _ _ c.requires.taken.fits) in
       image_promised c.args.size c.args.pages c.args.directory.now list c.args.image.now ready.passed fit _
       (c.write_image.ensures.written ∙
       ap (written c.args.size c.args.pages c.args.directory.now) (c.taken.ensures.taken ∙ ready.list_kept));

@@ -7,4 +7,5 @@ use Rattle.imaging.proofs.stations.write_moves.Given as goal
 
 abbrev pub invariant-loop-written : goal.invariant-loop-written
 invariant-loop-written l =
-    Writing l.initial.bytes l.from (run_of l.records l.station) l.bytes l.at l.written (run_of (drop l.written l.records) l.station)
+    Writing l.initial.bytes l.from (run_of l.records l.station) l.bytes l.at l.written
+    (run_of (drop l.written l.records) l.station)
