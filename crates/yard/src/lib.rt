@@ -22,20 +22,21 @@ ghost use Rattle.yard.specs.Searches.{SearchTold};
 
 pub mod writer;
 
-use telling::answers::{of_check, of_order, of_replay, of_route, tell, tell_search};
+use telling::Numbers;
+use telling::answers::tell;
 
 // The whole check of a map.
 pub fn yard_check(image: &[u8], answer: &mut [u32]) -> u32
     ensures outcome { told result answer.new ≡ told_by (of_check (whole_check image.now)) answer.old }
 {
-    tell(of_check(whole::check(image)), answer)
+    tell(Numbers::from(whole::check(image)), answer)
 }
 
 // Which of two maps is less in the order of maps, or that they are equal.
 pub fn yard_order(first: &[u8], second: &[u8], answer: &mut [u32]) -> u32
     ensures told { OrderTold first.now second.now result answer.old answer.new }
 {
-    tell(of_order(order::compare(first, second)), answer)
+    tell(Numbers::from(order::compare(first, second)), answer)
 }
 
 // The reads of a recorded page list in a store of some frames, for a table of page distances and a threshold.
@@ -50,10 +51,8 @@ pub fn yard_replay(
     ensures told { ReplayTold list.now pages frames distances.now threshold result answer.old
         answer.new }
 {
-    tell(
-        of_replay(store::replay(list, pages, frames, distances, threshold)),
-        answer,
-    )
+    let answered = store::replay(list, pages, frames, distances, threshold);
+    tell(Numbers::from(answered), answer)
 }
 
 // The plain search, Dijkstra's, for a strip of a length in decimetres.
@@ -76,7 +75,7 @@ pub fn yard_plain(
         result answer.old answer.new }
 {
     let answered = search::calls::plain(image, source, strip, times, moves, preds, marks, list);
-    tell_search(answered, answer)
+    tell(Numbers::from(answered), answer)
 }
 
 // The DF search for such a strip.
@@ -99,7 +98,7 @@ pub fn yard_df(
         result answer.old answer.new }
 {
     let answered = search::calls::df(image, source, strip, times, moves, preds, marks, list);
-    tell_search(answered, answer)
+    tell(Numbers::from(answered), answer)
 }
 
 // The stations from the source to a station, by the predecessors that a search left.
@@ -108,7 +107,7 @@ pub fn yard_route(preds: &[u16], station: u16, out: &mut [u16], answer: &mut [u3
         told_by (of_route (route_call preds.now station out.old).answer) answer.old }
     ensures output { out.new ≡ (route_call preds.now station out.old).output }
 {
-    tell(of_route(route::route(preds, station, out)), answer)
+    tell(Numbers::from(route::route(preds, station, out)), answer)
 }
 
 // The time to one station for the panel of the crane cabin, as one float.

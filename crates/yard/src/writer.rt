@@ -3,7 +3,8 @@
 ghost use Rattle.yard.specs.Writer.{ReadTold, WriteTold};
 
 use move_record::MoveRecord;
-use telling::answers::{tell_read, tell_written};
+use telling::Numbers;
+use telling::answers::tell;
 
 // The records of an image, put at the front of a list.
 pub fn yard_records(image: &[u8], records: &mut [MoveRecord], answer: &mut [u32]) -> u32
@@ -11,7 +12,7 @@ pub fn yard_records(image: &[u8], records: &mut [MoveRecord], answer: &mut [u32]
         result answer.old answer.new }
 {
     let answered = records::read(image, records);
-    tell_read(answered, answer)
+    tell(Numbers::from(answered), answer)
 }
 
 // The image of records, written into a buffer for a number of stations and of pages and a directory.
@@ -27,5 +28,5 @@ pub fn yard_write(
         image.new result answer.old answer.new }
 {
     let answered = records::write(records, stations, pages, directory, image);
-    tell_written(answered, answer)
+    tell(Numbers::from(answered), answer)
 }

@@ -1,6 +1,6 @@
 // The C interface (include/yard.h), as a static library: each function of the crate `yard` as a C function of the same
-// name, which does no more than call it, with its clauses word for word. A slice passes as a pointer and a length in
-// entries. The map writer's two calls stand in writer.rt.
+// name, which does no more than call it, with its clauses word for word: a crate is a library or a static library, and
+// never both. A slice passes as a pointer and a length in entries. The map writer's two calls stand in writer.rt.
 
 #![tactic(auto)]
 

@@ -6,6 +6,6 @@ use Rattle.yard.proofs.yard_check.Goals as goal
 
 pub tell-requires : goal.tell-requires
 tell-requires c = record {
-  small = subst Small (sym (c.of_check.ensures.value ∙ ap of_check c.check.ensures.outcome))
+  small = subst Small (sym (c.from.ensures ∙ ap of_check c.check.ensures.outcome))
       (small_check _);
 }

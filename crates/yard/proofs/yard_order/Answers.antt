@@ -6,6 +6,6 @@ use Rattle.yard.proofs.yard_order.Goals as goal
 
 pub tell-requires : goal.tell-requires
 tell-requires c = record {
-  small = subst Small (sym (c.of_order.ensures.value ∙ ap of_order c.compare.ensures.promised.outcome))
+  small = subst Small (sym (c.from.ensures ∙ ap of_order c.compare.ensures.promised.outcome))
       (small_order _ _);
 }

@@ -3,7 +3,7 @@ use Rattle.common.proofs.Ground.{false, arith}
 use Rattle.yard.proofs.Told.{small_numbers}
 use Rattle.yard.proofs.yard_plain.Goals as goal
 
-pub tell_search-requires : goal.tell_search-requires
-tell_search-requires c = record {
-  small = small_numbers false _ _ c.plain-answered.ensures.promised.outcome (λ i. omega (arith, c.type_inv.image i));
+pub tell-requires : goal.tell-requires
+tell-requires c = record {
+  small = rw c.from.ensures (small_numbers false _ _ c.plain-answered.ensures.promised.outcome (λ i. omega (arith, c.type_inv.image i)));
 }

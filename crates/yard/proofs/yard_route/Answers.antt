@@ -8,6 +8,6 @@ use Rattle.yard.proofs.yard_route.Goals as goal
 pub tell-requires : goal.tell-requires
 tell-requires c = record {
   small = subst Small
-      (sym (c.of_route.ensures.value ∙ ap (λ (h : Handed). of_route h.answer) c.route.ensures.handed))
+      (sym (c.from.ensures ∙ ap (λ (h : Handed). of_route h.answer) c.route.ensures.handed))
       (small_route _ _ _);
 }

@@ -2,5 +2,5 @@
 use Rattle.yard.proofs.Small.{small_read}
 use Rattle.yard.proofs.writer.yard_records.Goals as goal
 
-pub tell_read-requires : goal.tell_read-requires
-tell_read-requires c = record { small = small_read _ _ _ _ _ c.read-answered.ensures.promised }
+pub tell-requires : goal.tell-requires
+tell-requires c = record { small = rw c.from.ensures (small_read _ _ _ _ _ c.read-answered.ensures.promised) }
