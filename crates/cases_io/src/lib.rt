@@ -1,8 +1,8 @@
 // What the test programs read alike, on standard input: numbers little-endian, labels, images. What search_test,
-// panel_test, records_test, order_test and store_test read is a row of maps (in the last three, of lists and tables). A
-// map is the label's length (u8), the number of its calls (u16), the image's length (u32), the label, the image, and the
-// calls. A call is each program's own; at its end are its changes, each an offset (u32) and the byte that the image has
-// there from this call on. Labels and changes are printed as they are read. And what such programs print alike: a
+// panel_test, records_test, order_test and store_test read is a row of maps (in the last three, of lists and tables).
+// A map is the label's length (u8), the number of its calls (u16), the image's length (u32), the label, the image, and
+// the calls. A call is each program's own; at its end are its changes, each an offset (u32) and the byte that the image
+// has there from this call on. Labels and changes are printed as they are read. And what such programs print alike: a
 // refusal with its place.
 
 #![tactic(auto)]

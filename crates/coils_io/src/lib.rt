@@ -77,8 +77,8 @@ fn answer_records<R: Input + Print + Eprint>(rt: &R, image: &[u8]) -> bool {
     true
 }
 
-// Runs the program, and gives its exit status: 0 if all was read and written, and 1 otherwise. A map that can't be opened
-// or read is empty.
+// Runs the program, and gives its exit status: 0 if all was read and written, and 1 otherwise. A map that can't be
+// opened or read is empty. A number and no ExitCode: the clause states it of coils_run.
 pub fn coils_run<R: Files + Input + Print + Eprint>(rt: &R) -> i32
     ensures status { (result ≡ pos 0) ⊎ (result ≡ pos 1) }
 {

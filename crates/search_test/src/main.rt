@@ -16,7 +16,10 @@ use std::io;
 fn print_call<R: Print>(rt: &R, call: &[u8]) -> io::Result<()> {
     let source = word_at(call, 0);
     let strip = word_at(call, 2);
-    print!(rt; " from {source}, strip {strip}, tables {}", word_at(call, 4))?;
+    print!(rt;
+        " from {source}, strip {strip}, tables {}",
+        word_at(call, 4)
+    )?;
     for at in [6, 8, 10, 12] {
         print!(rt; " {}", word_at(call, at))?;
     }

@@ -1,5 +1,5 @@
-// The text of an answer: `accepted, count 3, reached 7`, or the refusal's number with the place that it names. The count
-// stands beside a page: at any other refusal the list has no entry.
+// The text of an answer: `accepted, count 3, reached 7`, or the refusal's number with the place that it names. The
+// count stands beside a page: at any other refusal the list has no entry.
 
 use cases_io::Told;
 use image::Refusal;

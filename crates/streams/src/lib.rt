@@ -1,5 +1,5 @@
-// Reading and writing by std's `read` and `write`. A call that a signal cut off, or whose other side is not ready yet, is
-// made again. A proved loop has to end, so calls are counted, up to a number that no run comes to.
+// Reading and writing by std's `read` and `write`. A call that a signal cut off, or whose other side is not ready yet,
+// is made again. A proved loop has to end, so calls are counted, up to a number that no run comes to.
 
 #![tactic(auto)]
 
@@ -9,7 +9,8 @@ ghost use Rattle.std.specs.Io.KnownBytes.{Appends, Consumes};
 use std::io::{Error, ErrorKind};
 use std::{hint, io};
 
-// What reading left: so many bytes at the buffer's front, and whether a read failed. The bytes before a failure stand.
+// What reading left: so many bytes at the buffer's front, and whether a read failed. Both and no Result of the one: the
+// bytes that were read before a failure are the caller's too.
 #[derive(Drop)]
 pub struct Read {
     pub size: usize,

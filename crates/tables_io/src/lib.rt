@@ -1,6 +1,6 @@
 // The text of a lent table, as search_test, records_test, order_test and panel_test print it: runs of equal entries,
-// such as ` 0 4 187*5`. A table of more than 64 runs is printed as its length, a digest of all its entries, and its last
-// run. So an entry that a search ought to keep shows if it was written.
+// such as ` 0 4 187*5`. A table of more than 64 runs is printed as its length, a digest of all its entries, and its
+// last run. So an entry that a search ought to keep shows if it was written.
 
 #![tactic(auto)]
 

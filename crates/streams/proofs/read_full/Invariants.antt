@@ -1,5 +1,5 @@
--- `read_full`: each call moves at most what the buffer has left, the buffer keeps its length, and what is at its front was
--- read.
+-- `read_full`: each call moves at most what the buffer has left, the buffer keeps its length, and what is at its front
+-- was read.
 use Rattle.std.proofs.Common.{◌≡◌, ◌≤◌, length, take}
 use Rattle.std.specs.Io.KnownBytes.{Consumes}
 use Rattle.streams.proofs.read_full.Given as goal

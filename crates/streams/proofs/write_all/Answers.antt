@@ -8,7 +8,8 @@ use Rattle.streams.proofs.write_all.Goals as goal
 moved : (all done rest : List ℕ) (n : ℕ) → all ≡ done ++ rest
     → all ≡ (done ++ take n rest) ++ take (length rest - n) (drop n rest)
 moved all done rest n e =
-    e ∙ ap (λ (l : List ℕ). done ++ l) (sym (take-append-drop n rest)) ∙ sym (append_assoc done (take n rest) (drop n rest)) ∙
+    e ∙ ap (λ (l : List ℕ). done ++ l) (sym (take-append-drop n rest)) ∙
+    sym (append_assoc done (take n rest) (drop n rest)) ∙
     ap (λ (l : List ℕ). (done ++ take n rest) ++ l) (sym (take_rest rest n))
 
 pub loop-preserved : goal.loop-preserved

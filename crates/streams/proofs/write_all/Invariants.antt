@@ -5,4 +5,5 @@ use Rattle.streams.proofs.write_all.Given as goal
 
 abbrev pub invariant-loop : goal.invariant-loop
 invariant-loop g l =
-    (done : List ℕ) × (l.fn.bytes ≡ done ++ l.rest) × Appends (g.W.Write.contents l.fn.output) (g.W.Write.contents l.output) done
+    (done : List ℕ) × (l.fn.bytes ≡ done ++ l.rest)
+    × Appends (g.W.Write.contents l.fn.output) (g.W.Write.contents l.output) done
