@@ -35,15 +35,12 @@ fn pass_station(first: &mut Walk, p: u8, second: &mut Walk, q: u8) -> bool
     ensures passed { PassedStation (page_bytes first.old.image.now p) p (page_bytes second.old.image.now q) q
         first.old.offsets second.old.offsets result first.new.offsets second.new.offsets }
 {
-    let over = pass_moves(
-        page_of(first.image, p),
-        &mut first.offsets[p as usize],
-        page_of(second.image, q),
-        &mut second.offsets[q as usize],
-    );
+    let at = &mut first.offsets[p as usize];
+    let with = &mut second.offsets[q as usize];
+    let over = pass_moves(page_of(first.image, p), at, page_of(second.image, q), with);
     if over {
-        first.offsets[p as usize] += length_of(STATION);
-        second.offsets[q as usize] += length_of(STATION);
+        *at += length_of(STATION);
+        *with += length_of(STATION);
     }
     over
 }
