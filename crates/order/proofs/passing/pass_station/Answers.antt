@@ -1,6 +1,6 @@
 -- What was passed is that of the images' own pages, and stays within them. Where both have no more moves, the next
 -- station's own command is passed too.
-use Rattle.common.proofs.Ground.{◌≤◌, arith}
+use Rattle.common.proofs.Ground.{arith}
 use Rattle.order.proofs.InCommon.{passed_near}
 use Rattle.order.proofs.passing.pass_station.Goals as goal
 
