@@ -15,7 +15,7 @@ use image::{directory_of, page_of};
 fn pass_moves(first: &[u8], at: &mut usize, second: &[u8], with: &mut usize) -> bool
     ensures passed { PassedMoves first.now at.old second.now with.old at.new with.new result }
 {
-    loop {
+    'moves: loop {
         match (next_move(first, *at), next_move(second, *with)) {
             (Some((m, behind)), Some((n, also_behind))) if m == n => {
                 *at = behind;
