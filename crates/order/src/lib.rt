@@ -13,10 +13,8 @@ ghost use Rattle.order.specs.Answers.{order_in, naming_in};
 
 mod passing;
 
-use by_station::next_record;
-use commands::{STATION, length_of};
+use by_station::Walk;
 use image::{Refusal, station_count};
-use layout::places::PAGES;
 use passing::pass_stations;
 use std::cmp::Ordering;
 use whole::check;
@@ -35,13 +33,12 @@ fn by_records(first: &[u8], second: &[u8]) -> Ordering
     requires stations { station_count first.now ≡ station_count second.now }
     ensures value { order_in result ≡ by_records (records_of first.now) (records_of second.now) }
 {
-    let begin = length_of(STATION);
-    let mut first_offsets = [begin; PAGES];
-    let mut second_offsets = [begin; PAGES];
-    let u = pass_stations(first, second, &mut first_offsets, &mut second_offsets);
+    let mut first = Walk::new(first);
+    let mut second = Walk::new(second);
+    let u = pass_stations(&mut first, &mut second);
     // A list that is over comes first, as None does.
-    let r = next_record(first, u, &mut first_offsets);
-    let s = next_record(second, u, &mut second_offsets);
+    let r = first.next_record(u);
+    let s = second.next_record(u);
     r.cmp(&s)
 }
 

@@ -3,8 +3,8 @@ use Rattle.common.proofs.Ground.{◌-◌, length}
 use Rattle.order.specs.Passing.{Passed}
 use Rattle.order.proofs.passing.pass_moves.Given as goal
 
-abbrev pub invariant-loop-behind : goal.invariant-loop-behind
-invariant-loop-behind l = Passed l.first l.second l.from l.also l.at l.with
+abbrev pub invariant-moves : goal.invariant-moves
+invariant-moves l = Passed l.first l.second l.initial.at l.initial.with l.at l.with
 
-abbrev pub decreases-loop-behind : goal.decreases-loop-behind
-decreases-loop-behind l = length l.first - l.at
+abbrev pub decreases-moves : goal.decreases-moves
+decreases-moves l = length l.first - l.at

@@ -1,7 +1,9 @@
--- The loop's invariant: both walks stand at station u (proofs/Walking.antt).
+-- The loop's invariant: the walks are of the same images, and stand at station u (proofs/Walking.antt).
+use Rattle.common.proofs.Ground.{◌≡◌}
 use Rattle.order.specs.Passing.{Walking}
 use Rattle.order.proofs.passing.pass_stations.Given as goal
 
 abbrev pub invariant-loop-u : goal.invariant-loop-u
 invariant-loop-u l =
-    Walking l.first l.second l.offsets l.others l.u
+    ((l.first.image ≡ l.fn.first.image) × (l.second.image ≡ l.fn.second.image)) ×
+    Walking l.fn.first.image.now l.fn.second.image.now l.first.offsets l.second.offsets l.u

@@ -3,9 +3,9 @@
 use Rattle.common.proofs.Ground.{List}
 use Rattle.move_record.specs.declared.MoveRecord.{MoveRecord}
 use Rattle.by_station.specs.Standing.{Standing}
-use Rattle.by_station.proofs.next_record.Given as goal
+use Rattle.by_station.proofs.Walk.next_record.Given as goal
 
 abbrev pub invariant-loop-u : goal.invariant-loop-u
 invariant-loop-u l =
-    (left : List MoveRecord) → Standing l.image l.from l.initial.offsets left
-    → Standing l.image l.u l.offsets left
+    (left : List MoveRecord) → Standing l.fn.self.image.now l.from l.initial.offsets left
+    → Standing l.fn.self.image.now l.u l.offsets left
