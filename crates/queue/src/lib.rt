@@ -43,6 +43,10 @@ pub fn least_key(keys: &[u64]) -> u64
     least
 }
 
+// That each group is the least of its leaves (`Groups`) is a clause of the three functions below, and no ghost field of
+// a queue type: `memory` (cells/specs/Cells.antt) and `without_waiting` (relax/specs/Visits.antt) make a memory out of
+// lists, and would have to carry the proof of it.
+
 // The leaf of page p becomes the lesser of itself and `key`. No other leaf of its group has to be looked at.
 pub fn lower_leaf(queue: &mut [u64], p: usize, key: u64)
     requires page { p < 256 }

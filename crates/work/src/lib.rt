@@ -20,6 +20,8 @@ pub fn station_of(key: u64) -> usize
     (key % 2048) as usize
 }
 
+// Places and layout are two parameters of each function, and no struct: relax/src/lib.rt says why.
+
 // Works page p through, for so many turns at most: after each visit its least waiting key is looked for again, and at
 // the end it is the page's leaf.
 fn work_through(
