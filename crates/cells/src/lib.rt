@@ -14,6 +14,10 @@ use common::NOBODY;
 use layout::places::{STATIONS, page_at, slot_of};
 use queue::{QUEUE, lower_leaf};
 
+// That stations are below 2048, sums below `most_cost` and tables of their sizes (`Room`) is said in clauses, here and
+// in relax, and by no types: docs/DECISIONS.md names `offer`, `visit` and `relax_moves` with what they ask, and a
+// number's own type would be taken apart at each index.
+
 // A cost and a station in one number: a cell has a station's predecessor beside its cost, a key the station itself.
 fn pack(cost: u64, station: usize) -> u64
     requires station { station < 2048 }

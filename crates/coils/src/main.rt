@@ -1,4 +1,5 @@
-// The program `coils`.
+// The program `coils`. Each program has a `main` of its own; what this one and `coils_test` do is one function below
+// them.
 
 #![tactic(auto)]
 

@@ -1,4 +1,5 @@
-// The program `coils` on a second input: a map one byte too long, and a record cut short.
+// The program `coils` on a second input: a map one byte too long, and a record cut short. As `coils` it has a `main` of
+// its own, above the same function.
 
 #![tactic(auto)]
 

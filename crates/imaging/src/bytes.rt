@@ -3,7 +3,8 @@
 ghost use Rattle.std.specs.Prelude.{◌≡◌, [], ◌∷◌, ◌+◌, ◌/◌, ◌%◌, ◌≤◌, length};
 ghost use Rattle.common.specs.Window.{placed};
 
-// Puts a number, its lower byte first.
+// Puts a number, its lower byte first. The offset stands beside the buffer, and no window of it is lent: the contract
+// says what the whole buffer is then (`placed`).
 pub fn put_word(bytes: &mut [u8], at: usize, value: u16)
     requires room { at + 2 ≤ length bytes.old }
     ensures put { bytes.new ≡ placed bytes.old at (value % 256 ∷ value / 256 ∷ []) }

@@ -25,7 +25,9 @@ struct Behind {
     at: usize,
 }
 
-// Puts what a command begins with: its code and a station.
+// Puts what a command begins with: its code and a station. The code is a number, as `length_of` takes it. An offset
+// stands beside the buffer in each function here that puts bytes, as in bytes.rt: the contract says what the whole
+// buffer is then (`placed`, `Put`).
 fn put_command(bytes: &mut [u8], at: usize, code: u8, station: u16)
     requires room { at + 3 ≤ length bytes.old }
     ensures put { bytes.new

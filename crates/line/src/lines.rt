@@ -8,6 +8,9 @@ ghost use Rattle.line.specs.Writing.{line_room, Fronted};
 use super::records::Record;
 use text::{put_number, put_text};
 
+// A line is any slice with room (`line_room`), and no array of a size, which would ask more of callers:
+// docs/DECISIONS.md names these functions with the room that they ask.
+
 // `coil C length L from S`
 fn put_source(line: &mut [u8], parts: Record) -> usize
     requires room { line_room ≤ length line.old }
@@ -34,6 +37,7 @@ pub fn put_accepted(line: &mut [u8], parts: Record, count: usize, reached: usize
 }
 
 // `coil C refused N`
+// Any number will do, and no type of refusals is asked for: the number is all that is printed.
 pub fn put_refusal(line: &mut [u8], coil: u32, number: u8) -> usize
     requires room { line_room ≤ length line.old }
     ensures put { Fronted (refusal_line coil number) line.old line.new result }

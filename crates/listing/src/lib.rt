@@ -44,6 +44,7 @@ fn keep_station(
     let page = page_of(image, p);
     let mut at = from + length_of(STATION);
     let mut count = first;
+    // A `while let` and no `for`: each move tells where the next one begins, and a command that is no move ends them.
     while let Some((m, behind)) = next_move(page, at) {
         kept[count] = record_for(u, m);
         count += 1;

@@ -17,7 +17,8 @@ use rules::judged_at;
 // Reads page p: good, or the first command at fault. Each station that is named begins a row, and its moves that are
 // open to the strip are laid out there as they are read; the rows stand one behind the other in the page's own room. The
 // stations are placed, so that the one that is due is known by its slot. The directory and its places are two parameters
-// with a clause on both, as judged_at takes them: docs/DECISIONS.md names what both functions ask.
+// with a clause on both, and the page is a slice of at most 256 bytes, as judged_at takes them: docs/DECISIONS.md names
+// what both functions ask.
 pub fn read_page(
     directory: &[u8],
     places: &[u16],

@@ -13,7 +13,8 @@ use common::NO_TIME;
 use image::{Refusal, check_heading, station_count};
 use search::own::{TABLE, df_times};
 
-// The answer inside, where it is not refused: the time in tenths of a second as a float, or no route.
+// The answer inside, where it is not refused: the time in tenths of a second as a float, or no route. An enum and no
+// `Option<f64>`: document 01 names it, with `Tenths(f64)` and `NoRoute`.
 #[derive(Clone, Copy, Debug, PartialEq)]
 pub enum Shown {
     Tenths(f64),

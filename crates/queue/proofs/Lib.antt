@@ -1,4 +1,4 @@
--- The laws that callers cite (Keys, Least, Groups), and the scan of `least_between`.
+-- The laws that callers cite (Keys, Least, Groups), and the scan of `least_key`.
 
 pub mod Keys
 pub mod Least

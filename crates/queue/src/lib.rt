@@ -4,7 +4,7 @@
 // queue is in proofs/Groups.antt, of the least of some keys in proofs/Least.antt, of a key's parts in proofs/Keys.antt.
 #![tactic(auto)]
 
-ghost use Rattle.std.specs.Prelude.{◌≡◌, ◌-◌, ◌<◌, ◌≤◌, min, length, get_or, take, drop};
+ghost use Rattle.std.specs.Prelude.{◌≡◌, ◌<◌, ◌≤◌, min, get_or, take};
 ghost use Rattle.queue.specs.Keys.{least_in};
 ghost use Rattle.queue.specs.Queue.{Groups, Put, leaves_of};
 
@@ -27,14 +27,12 @@ fn least_of(keys: &[u64; 4]) -> u64
     keys[0].min(keys[1]).min(keys[2].min(keys[3]))
 }
 
-// The least of the keys from `lo` up to `hi`. Four of them are compared in a turn, so that the least so far waits for
-// one comparison and not for four.
-pub fn least_between(keys: &[u64], lo: usize, hi: usize) -> u64
-    requires ordered { lo ≤ hi }
-    requires inside { hi ≤ length keys.now }
-    ensures least { result ≡ least_in (take (hi - lo) (drop lo keys.now)) }
+// The least of some keys. Four of them are compared in a turn, so that the least so far waits for one comparison and
+// not for four.
+pub fn least_key(keys: &[u64]) -> u64
+    ensures least { result ≡ least_in keys.now }
 {
-    let (fours, rest) = keys[lo..hi].as_chunks::<4>();
+    let (fours, rest) = keys.as_chunks::<4>();
     let mut least = NOBODY;
     for four in fours {
         least = least.min(least_of(four));
@@ -44,6 +42,10 @@ pub fn least_between(keys: &[u64], lo: usize, hi: usize) -> u64
     }
     least
 }
+
+// That each group is the least of its leaves (`Groups`) is a clause of the three functions below, and no ghost field of
+// a queue type: `memory` (cells/specs/Cells.antt) and `without_waiting` (relax/specs/Visits.antt) make a memory out of
+// lists, and would have to carry the proof of it.
 
 // The leaf of page p becomes the lesser of itself and `key`. No other leaf of its group has to be looked at.
 pub fn lower_leaf(queue: &mut [u64], p: usize, key: u64)
@@ -64,7 +66,7 @@ pub fn set_leaf(queue: &mut [u64], p: usize, key: u64)
 {
     let g = p / GROUP;
     queue[p] = key;
-    queue[LEAVES + g] = least_between(queue, GROUP * g, GROUP * g + GROUP);
+    queue[LEAVES + g] = least_key(&queue[GROUP * g..GROUP * g + GROUP]);
 }
 
 // The least key of the first `pages` pages, and of those that fill up their last four groups. On a map of few pages
@@ -74,5 +76,5 @@ pub fn top(queue: &[u64], pages: usize) -> u64
     requires groups { Groups queue.now }
     ensures least { result ≡ least_in (take (leaves_of pages) queue.now) }
 {
-    least_between(queue, LEAVES, LEAVES + (pages + 63) / 64 * 4)
+    least_key(&queue[LEAVES..LEAVES + (pages + 63) / 64 * 4])
 }

@@ -13,6 +13,10 @@ use common::{NOBODY, TENTH};
 use layout::moves::{begin_of, end_of};
 use layout::places::{STATIONS, slot_of};
 
+// Stations, sums and tables have their bounds by clauses, as cells/src/lib.rt says. Places and layout are two
+// parameters here and in work, and no struct: the page reader is lent the layout to write and the search to read, so
+// that the pair would be made anew at every reference, and each clause would name its fields.
+
 // Relaxes some rows of the layout, which are moves of station u, whose cost is given: each leads to station `row % 2048`
 // in time `row / 2048`, by one move more.
 fn relax_rows(memory: &mut Memory, places: &[u16], rows: &[u32], u: usize, cost: u64)

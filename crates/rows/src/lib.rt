@@ -10,6 +10,9 @@ use commands::Move;
 use layout::moves::END_FROM;
 use layout::places::STATIONS;
 
+// A layout is any slice that reaches as far as it is written, and an entry a plain number, both bounded by clauses:
+// docs/DECISIONS.md names `begin_row`, `lay_move` and `lay_limited` with what they ask.
+
 // Begins the row of station v at entry k, without a move yet.
 pub fn begin_row(layout: &mut [u32], v: usize, k: usize)
     requires station { 2048 + v < length layout.old }

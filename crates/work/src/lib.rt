@@ -10,7 +10,7 @@ ghost use Rattle.work.specs.Hand.{Working, Worked};
 use cells::Memory;
 use common::NOBODY;
 use layout::places::{first_slot, slot_of};
-use queue::{least_between, set_leaf};
+use queue::{least_key, set_leaf};
 use relax::{relax_moves, visit};
 
 // The station that a key names.
@@ -19,6 +19,8 @@ pub fn station_of(key: u64) -> usize
 {
     (key % 2048) as usize
 }
+
+// Places and layout are two parameters of each function, and no struct: relax/src/lib.rt says why.
 
 // Works page p through, for so many turns at most: after each visit its least waiting key is looked for again, and at
 // the end it is the page's leaf.
@@ -42,7 +44,7 @@ fn work_through(
             break;
         }
         visit(station_of(least), places, layout, memory);
-        least = least_between(&memory.waiting, lo, hi);
+        least = least_key(&memory.waiting[lo..hi]);
     }
     set_leaf(&mut memory.queue, p, least);
 }
@@ -57,11 +59,9 @@ fn take_turn(p: usize, key: u64, places: &[u16], layout: &[u32], memory: &mut Me
 {
     let u = station_of(key);
     memory.waiting[slot_of(places, u)] = NOBODY;
-    let others = least_between(
-        &memory.waiting,
-        first_slot(places, p),
-        first_slot(places, p + 1),
-    );
+    let lo = first_slot(places, p);
+    let hi = first_slot(places, p + 1);
+    let others = least_key(&memory.waiting[lo..hi]);
     set_leaf(&mut memory.queue, p, others);
     relax_moves(u, places, layout, memory);
 }

@@ -6,5 +6,5 @@ use Rattle.queue.proofs.top.Goals as goal
 pub returns : goal.returns
 returns c =
     let counted : (groups : ℕ) → 256 + groups - 256 ≡ groups = λ groups. omega arith in record {
-      least = (rw counted at c.least_between.ensures.least) ∙ top_least _ c.requires.groups ((c.args.pages + 63) / 64 * 4) (omega arith);
+      least = (rw counted at c.least_key.ensures.least) ∙ top_least _ c.requires.groups ((c.args.pages + 63) / 64 * 4) (omega arith);
     }

@@ -17,8 +17,8 @@ relax_moves-requires c =
     = record {
       named = c.station_of-u.ensures.value;
       slotted = c.slot_of.ensures.value;
-      put = leaf_put c.args.places.now _ c.first_slot.ensures.value c.first_slot-2.ensures.value
-          c.least_between-others.ensures.least c.set_leaf.ensures.changed;
+      put = leaf_put c.args.places.now _ c.first_slot-lo.ensures.value c.first_slot-hi.ensures.value
+          c.least_key-others.ensures.least c.set_leaf.ensures.changed;
     } in
     let (station, (cost, (room, row))) = last_asks c.requires.in_hand.2 (omega arith) c.requires.somebody leaf in
     record { station = station; cost = cost; room = room; row = row }
@@ -30,8 +30,8 @@ returns c =
     = record {
       named = c.station_of-u.ensures.value;
       slotted = c.slot_of.ensures.value;
-      put = leaf_put c.args.places.now _ c.first_slot.ensures.value c.first_slot-2.ensures.value
-          c.least_between-others.ensures.least c.set_leaf.ensures.changed;
+      put = leaf_put c.args.places.now _ c.first_slot-lo.ensures.value c.first_slot-hi.ensures.value
+          c.least_key-others.ensures.least c.set_leaf.ensures.changed;
     } in
     record {
       worked = λ q k hand. last_turn hand (omega arith) c.requires.somebody leaf (omega arith)

@@ -16,7 +16,7 @@ loop-preserved c =
       λ q k hand.
           rw turn (turned (c.loop.invariant.0 q k hand) (omega arith) c.if-least-ge-NOBODY.false
           c.station_of.ensures.value c.visit.ensures.visited
-          c.first_slot-lo.ensures.value c.first_slot-hi.ensures.value c.least_between-least.ensures.least),
+          c.first_slot-lo.ensures.value c.first_slot-hi.ensures.value c.least_key-least.ensures.least),
       search rules,
     )
 
