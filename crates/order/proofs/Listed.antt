@@ -1,7 +1,7 @@
 -- The stations of a wholly good image by its directory: how many are listed, what comes next where it is read from
 -- station u on, and that a station's page is read within.
-use Rattle.common.proofs.Ground.{◌≡◌, ap, sym, ◌∙◌, List, ◌∷◌, ℕ, ◌+◌, ◌≤◌, ◌<◌, arith, length, get_or, drop, length-drop}
-use Rattle.common.proofs.Ground.{drop-cons, add-one}
+use Rattle.common.proofs.Ground.{◌≡◌, ap, sym, ◌∙◌, List, ◌∷◌, ℕ, ◌+◌, ◌≤◌, ◌<◌, arith, length, get_or}
+use Rattle.common.proofs.Ground.{drop, length-drop, drop-cons, add-one}
 use Rattle.image.specs.Image.{accepted, station_count, directory_of}
 use Rattle.whole.specs.Check.{whole_check}
 use Rattle.move_record.specs.declared.MoveRecord.{MoveRecord}
@@ -12,8 +12,8 @@ module _ (image : List ℕ) (whole : whole_check image ≡ accepted) where
   pub listed : {directory : List ℕ} → directory ≡ directory_of image → length directory ≡ station_count image
   listed part = omega (arith, ap length part, (well-formed image whole).directory)
 
-  pub near : {u : ℕ} {offsets : List ℕ} {left : List MoveRecord} → Standing image u offsets left → u < station_count image
-      → get_or offsets (page_at image u) 0 ≤ 256
+  pub near : {u : ℕ} {offsets : List ℕ} {left : List MoveRecord} → Standing image u offsets left
+      → u < station_count image → get_or offsets (page_at image u) 0 ≤ 256
   near {u} {offsets} stands more =
       let reached = offset_inside image whole u offsets _ stands more in
       omega (arith, reached, (well-formed image whole).page _ (page_there image whole u more))

@@ -60,6 +60,6 @@ returns-clause-passed c =
     ⊎_elim (λ ends. none_comes _ c.args.first.now.whole _ left.0 ends.1.0)
     (λ ends. omega (arith, c.requires.stations, none_comes _ c.args.second.now.whole _ left.1 ends.1.0))
     c.in-None.ensures.steps.0 in
-    subst (PassedStations _ _ _ _)
-    (omega (arith, over, walking.first_stands.came, listed _ c.args.first.now.whole c.directory_of-directory.ensures.part))
+    let count = listed _ c.args.first.now.whole c.directory_of-directory.ensures.part in
+    subst (PassedStations _ _ _ _) (omega (arith, over, walking.first_stands.came, count))
     (all_passed _ _ c.args.first.now.whole c.args.second.now.whole c.requires.stations _ _ _ walking over)
