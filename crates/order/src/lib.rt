@@ -53,7 +53,8 @@ fn by_map(first: &[u8], second: &[u8]) -> Ordering
     }
 }
 
-// The naming call: how the first of two maps stands to the second. It refuses by the whole check, the first image first.
+// The naming call: how the first of two maps stands to the second. It refuses by the whole check, the first image
+// first.
 pub fn compare(first: &[u8], second: &[u8]) -> Result<Ordering, OrderRefusal>
     ensures promised { NamingPromised first.now second.now (naming_in result) }
 {

@@ -55,9 +55,9 @@ pub fn pass_stations(first: &mut Walk, second: &mut Walk) -> usize
         first.new.offsets second.new.offsets result }
 {
     let directory = directory_of(first.image);
-    let other_directory = directory_of(second.image);
-    for u in 0..directory.len() {
-        if !pass_station(first, directory[u], second, other_directory[u]) {
+    let pages = directory.iter().zip(directory_of(second.image));
+    for (u, (&p, &q)) in pages.enumerate() {
+        if !pass_station(first, p, second, q) {
             return u;
         }
     }

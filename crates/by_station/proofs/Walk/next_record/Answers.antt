@@ -1,5 +1,5 @@
--- What is read at the station is what stands there (proofs/Standing.antt): a move, which is the first record that is left,
--- or none, and then the walk stands at the next station.
+-- What is read at the station is what stands there (proofs/Standing.antt): a move, which is the first record that is
+-- left, or none, and then the walk stands at the next station.
 use Rattle.common.proofs.Ground.{refl, ap, sym, ◌∙◌, arith, length}
 use Rattle.by_station.proofs.Standing.{well-formed, read_due, read_over, read_page, read_there, offset_inside}
 use Rattle.by_station.proofs.Standing.{standing_move, standing_next, standing_over}
