@@ -29,6 +29,7 @@ fn least_of(keys: &[u64; 4]) -> u64
 
 // The least of some keys. Four of them are compared in a turn, so that the least so far waits for one comparison and
 // not for four.
+#[tactic(auto, using(crate::proofs::Scan::scan_start, crate::proofs::Scan::scan_one, crate::proofs::Scan::scan_four))]
 pub fn least_key(keys: &[u64]) -> u64
     ensures least { result ≡ least_in keys.now }
 {
