@@ -36,14 +36,15 @@ pub fn part_of(s: &[u8], from: usize, count: usize) -> &[u8]
 }
 
 // Whether all bytes from an offset on are 0. They are added up and tested once: a branch for each byte costs more. The
-// sum is at most 255 for each byte, so that it wraps for no slice of a page's length.
+// sum is at most 255 for each byte, so that it wraps for no slice of a page's length. By index: an iterator over the
+// slice makes the page reader, where this is compiled into it, slower (see command_at).
 pub fn zero_from(s: &[u8], at: usize) -> bool
     requires short { length s.now < 65536 }
     ensures value { result ≡ all_zero (drop at s.now) }
 {
     let mut sum: u32 = 0;
-    for b in part_of(s, at, s.len()) {
-        sum += u32::from(*b);
+    for i in at..s.len() {
+        sum += u32::from(s[i]);
     }
     sum == 0
 }

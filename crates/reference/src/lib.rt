@@ -42,7 +42,8 @@ fn turns_of(df: bool, image: &[u8]) -> usize
 }
 
 // One reference: the page of the station of least waiting key is listed, fetched and worked on, and handed back. None if
-// nobody was waiting, and a page at fault ends the search.
+// nobody was waiting, and a page at fault ends the search. The list is lent by C, with the number of its entries so far
+// beside it.
 pub fn refer(
     query: Query,
     image: &[u8],

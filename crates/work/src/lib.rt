@@ -66,7 +66,8 @@ fn take_turn(p: usize, key: u64, places: &[u16], layout: &[u32], memory: &mut Me
     relax_moves(u, places, layout, memory);
 }
 
-// Works on page p, whose least waiting key is given, for so many turns at most.
+// Works on page p, whose least waiting key is given, for so many turns at most. By their number, which the proof speaks
+// of too (`Working`): a closure for the step would have to promise the same of both.
 pub fn work_page(
     p: usize,
     turns: usize,

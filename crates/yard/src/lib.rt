@@ -55,7 +55,8 @@ pub fn yard_replay(
     tell(Numbers::from(answered), answer)
 }
 
-// The plain search, Dijkstra's, for a strip of a length in decimetres.
+// The plain search, Dijkstra's, for a strip of a length in decimetres. This and the DF search are two functions, as they
+// are two C names.
 pub fn yard_plain(
     image: &[u8],
     source: u16,
