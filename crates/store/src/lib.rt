@@ -67,7 +67,8 @@ fn count_reads(list: &[u8], pages: usize, frames: usize, distances: &[u32], thre
 }
 
 // Replays a list of pages in a store of some frames, with a table of the distances between pages, row by row, and a
-// threshold: the number of reads. It refuses by 3 and 23.
+// threshold: the number of reads. It refuses by 3 and 23. What C lends is five parameters; behind the refusals they are
+// one `Plant`.
 pub fn replay(
     list: &[u8],
     pages: usize,

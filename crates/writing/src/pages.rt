@@ -10,6 +10,8 @@ use layout::places::{PAGES, STATIONS};
 // The byte of `00`, which each page ends with.
 const END_BYTES: usize = 1;
 
+// The directory is lent, a slice of any length: that it has no more entries than a map has stations is a clause.
+
 // To the sum of each page what its stations need is added.
 #[tactic(auto, using(crate::proofs::Sums::sums_turn, crate::proofs::Sums::sums_end))]
 fn add_stations(bytes: &[u16; STATIONS], directory: &[u8], sums: &mut [usize; PAGES])
