@@ -15,7 +15,7 @@ pub const FILE: usize = 63493;
 pub const RECORD: usize = 8;
 
 // What a turn left: so many bytes to print at the front of the line's buffer, and whether another turn follows. Turns of
-// either kind have bytes to print, so that no Option says it.
+// either kind have bytes to print: no Option says it, and a ControlFlow would name the size twice.
 #[derive(Clone, Copy, Debug, PartialEq, Eq)]
 pub struct Turn {
     pub size: usize,

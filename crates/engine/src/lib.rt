@@ -1,6 +1,6 @@
 // The engine: both searches as a run of references. While a station waits, the page of the first that does is listed,
-// fetched, and worked on (net/specs/Run.antt). It works on memory of its own: cells, in which each station has its cost
-// and predecessor; the keys by which stations wait; the queue of pages. The moves of a page are rows that the page
+// fetched, and worked on (net/specs/Run.antt). It works on memory that it is lent: cells, in which each station has its
+// cost and predecessor; the keys by which stations wait; the queue of pages. The moves of a page are rows that the page
 // reader has laid out.
 
 #![tactic(auto)]

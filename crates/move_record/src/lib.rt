@@ -8,7 +8,8 @@ ghost use Rattle.std.specs.Prelude.{◌≡◌, ◌<◌, length, get_or, set};
 ghost use Rattle.move_record.specs.Records.{no_record};
 
 // A move of the map: from and target are stations, the time is in tenths of a second, and the limit is the longest
-// strip that the move takes, in decimetres, or 0 where it has none. In C it is four numbers of 16 bits in this order.
+// strip that the move takes, in decimetres, or 0 where it has none. In C it is four numbers of 16 bits in this order, by
+// which records compare too (02, C-17).
 #[repr(C)]
 #[derive(Clone, Copy, Debug, PartialEq, Eq, PartialOrd, Ord)]
 pub struct MoveRecord {

@@ -11,7 +11,7 @@ use commands::{STATION, length_of};
 use image::{directory_of, page_of};
 
 // Passes the moves that two pages have in common, each from an offset on, which moves with them. Says whether both have
-// no more.
+// no more. A loop and no `for`: each move tells where the next one begins, and the first that differs ends it.
 fn pass_moves(first: &[u8], at: &mut usize, second: &[u8], with: &mut usize) -> bool
     ensures passed { PassedMoves first.now at.old second.now with.old at.new with.new result }
 {

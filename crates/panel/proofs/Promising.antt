@@ -15,7 +15,8 @@ use Rattle.reply.proofs.Searches.{few_stations}
 use Rattle.search.proofs.Promising.{promised_of}
 use Rattle.reply.proofs.Refusals.{Numbered, RefusalNumbered, search_numbered}
 use Rattle.reply.proofs.Greatest.{greatest_time}
-use Rattle.panel.specs.Panel.{Inside, float, Answer, time, unreached, turned_down, answer_by, answer_to, inside, outside}
+use Rattle.panel.specs.declared.Shown.{Shown}
+use Rattle.panel.specs.Panel.{float, Answer, time, unreached, turned_down, answer_by, answer_to, inside, outside}
 use Rattle.panel.specs.Promises as read
 use Rattle.panel.specs.Promises.{ReadInside, tenths, ReadOutside, LeadsTo, NotRefused, Promised, InsidePromised}
 use Rattle.panel.specs.Promises.{OutsidePromised}
@@ -149,7 +150,7 @@ module _ (q : Query) (station : ℕ) (bytes : Bytes q.image) where
   outside_exact a (none lacking good) = minus_is 1 (lit≤ tt)
   outside_exact a (refusal number most other not_13) = minus_is (100 + number) (omega arith)
 
-  pub inside_promised : (r : Inside) → r ≡ inside (answer_to q station) → InsidePromised q station r
+  pub inside_promised : (r : Shown) → r ≡ inside (answer_to q station) → InsidePromised q station r
   inside_promised r is =
       rw is (promised q station inside ReadInside inside_exact one_inside (answer_to q station) (known q station bytes)
       refl)

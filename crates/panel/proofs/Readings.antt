@@ -2,11 +2,12 @@
 -- cannot be confused: each is a kind of float of its own, and the float tells its number.
 use Rattle.common.proofs.Ground.{◌≡◌, refl, ap, true, false, arith}
 use lib.Ieee.{Float}
-use Rattle.panel.specs.Panel.{Inside, Answer, time, unreached, turned_down}
+use Rattle.panel.specs.declared.Shown.{Shown}
+use Rattle.panel.specs.Panel.{Answer, time, unreached, turned_down}
 use Rattle.panel.specs.Promises.{ReadInside, tenths, none, number, ReadOutside}
 use Rattle.panel.proofs.Floats.{one_number, one_sign}
 
-pub one_inside : (shown : Inside) (a b : Answer) → ReadInside shown a → ReadInside shown b → a ≡ b
+pub one_inside : (shown : Shown) (a b : Answer) → ReadInside shown a → ReadInside shown b → a ≡ b
 one_inside shown a b (tenths x n v) (tenths y k w) = ap time (one_number x false n k v w)
 one_inside shown a b none none = refl
 one_inside shown a b (number n) (number k) = refl

@@ -1,16 +1,14 @@
 -- What the panel of the crane cabin is told of one station, inside and outside (02, C-12).
-use Rattle.std.specs.Prelude.{List, ℕ, ◌+◌, get_or, ltb, leb, pos, Float, Result, Ok, Err}
+use Rattle.std.specs.Prelude.{List, ℕ, ◌+◌, get_or, ltb, leb, pos, Float}
 use Rattle.std.specs.Float.{binary64}
 use Rattle.std.specs.Float.Ieee.{of_int, neg}
 use Rattle.common.specs.Numbers.{no_time}
 use Rattle.common.specs.Pick.{pick}
 use Rattle.net.specs.Search.{df_search}
-use Rattle.image.specs.declared.Refusal.{Refusal}
 use Rattle.image.specs.Image.{Outcome, accepted, refused, nowhere, station_count, heading_check, after_heading}
-use Rattle.image.specs.Image.{number_of}
 use Rattle.reply.specs.Reply.{Query, blank, searched}
 use Rattle.panel.specs.declared.Shown.{Shown}
-use Rattle.panel.specs.declared.Shown.TheVariants.{Tenths, NoRoute}
+use Rattle.panel.specs.declared.Shown.TheVariants.{Tenths, NoRoute, Refused}
 
 -- "The crane cabin shows the time to one station", in tenths of a second; there may be no route; and a refusal is told
 -- by its number, "its place left out".
@@ -38,26 +36,14 @@ answer_to q station =
 abbrev pub float : ℕ → Float
 float n = of_int binary64 (pos n)
 
--- What is told inside: a time as a float, no route, or a refusal's number.
-pub data Inside : Type 0 where
-  shows_time : Float → Inside
-  shows_none : Inside
-  shows_refusal : ℕ → Inside
-
 -- "Inside, the answer is either a time as a 64-bit float or no route, the float equal to the whole number of tenths"
-abbrev pub inside : Answer → Inside
-inside (time n) = shows_time (float n)
-inside unreached = shows_none
-inside (turned_down number) = shows_refusal number
-
--- What the call's answer tells.
-abbrev pub shown_in : Result Shown Refusal → Inside
-shown_in (Ok (Tenths tenths)) = shows_time tenths
-shown_in (Ok NoRoute) = shows_none
-shown_in (Err refusal) = shows_refusal (number_of refusal)
+abbrev pub inside : Answer → Shown
+inside (time n) = Tenths (float n)
+inside unreached = NoRoute
+inside (turned_down number) = Refused number
 
 -- "outside, as one float, no route is -1 and refusal n is -100 - n"
-abbrev pub outside : Inside → Float
-outside (shows_time tenths) = tenths
-outside shows_none = neg (float 1)
-outside (shows_refusal number) = neg (float (100 + number))
+abbrev pub outside : Shown → Float
+outside (Tenths tenths) = tenths
+outside NoRoute = neg (float 1)
+outside (Refused number) = neg (float (100 + number))

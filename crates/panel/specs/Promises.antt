@@ -4,8 +4,9 @@ use Rattle.std.specs.Prelude.{◌≡◌, true, false, ℕ, ◌+◌, ◌≤◌, F
 use Rattle.std.specs.Float.Ieee.Exact.{HasValue}
 use Rattle.net.specs.Net.{is_good, Walk}
 use Rattle.reply.specs.Reply.{Query, frame_of, pages_of}
+use Rattle.panel.specs.declared.Shown.{Shown}
+use Rattle.panel.specs.declared.Shown.TheVariants.{Tenths, NoRoute, Refused}
 use Rattle.panel.specs.Panel.{Answer, time, unreached, turned_down, answer_to, inside, outside}
-use Rattle.panel.specs.Panel.{Inside, shows_time, shows_none, shows_refusal}
 
 -- The float x is n, or is -n. The library's `HasValue x sign n 1` says that x is finite, has this sign (true is minus)
 -- and is n / 1 in size.
@@ -16,10 +17,10 @@ abbrev pub IsMinus : Float → ℕ → Type 0
 IsMinus x n = HasValue x true n 1
 
 -- What an answer can be read as: inside by the variant, outside by the kind of the float.
-pub data ReadInside : Inside → Answer → Type 0 where
-  tenths : (x : Float) (n : ℕ) → Is x n → ReadInside (shows_time x) (time n)
-  none : ReadInside shows_none unreached
-  number : (n : ℕ) → ReadInside (shows_refusal n) (turned_down n)
+pub data ReadInside : Shown → Answer → Type 0 where
+  tenths : (x : Float) (n : ℕ) → Is x n → ReadInside (Tenths x) (time n)
+  none : ReadInside NoRoute unreached
+  number : (n : ℕ) → ReadInside (Refused n) (turned_down n)
 
 abbrev pub ReadOutside : Float → Answer → Type 0
 ReadOutside x (time n) = Is x n
@@ -54,7 +55,7 @@ module _ (q : Query) (station : ℕ) where
     -- "tables of its own": none is too short
     pub never_7 : Reads r (turned_down 7) → ⊥
 
-  abbrev pub InsidePromised : Inside → Type 0
+  abbrev pub InsidePromised : Shown → Type 0
   InsidePromised = Promised inside ReadInside
 
   abbrev pub OutsidePromised : Float → Type 0

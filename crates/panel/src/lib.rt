@@ -3,27 +3,29 @@
 
 #![tactic(auto)]
 
-ghost use Rattle.std.specs.Prelude.{◌≡◌, ◌<◌, Ok};
+ghost use Rattle.std.specs.Prelude.{◌≡◌, ◌<◌};
 ghost use Rattle.image.specs.Image.{accepted, refused, nowhere, station_count, heading_check, after_heading};
 ghost use Rattle.reply.specs.Reply.{asked};
-ghost use Rattle.panel.specs.Panel.{answer_by, answer_to, inside, shown_in, outside};
+ghost use Rattle.panel.specs.Panel.{answer_by, answer_to, inside, outside};
 ghost use Rattle.panel.specs.Promises.{InsidePromised};
 
 use common::NO_TIME;
 use image::{Refusal, check_heading, station_count};
 use search::own::{TABLE, df_times};
 
-// The answer inside, where it is not refused: the time in tenths of a second as a float, or no route. An enum and no
-// `Option<f64>`: document 01 names it, with `Tenths(f64)` and `NoRoute`.
+// The answer inside: the time in tenths of a second as a float, no route, or the refusal's number. An enum of its own, as
+// document 01 names it with `Tenths(f64)` and `NoRoute`, and with a number: a refusal's place is left out (C-12), and
+// `one_float` takes every number.
 #[derive(Clone, Copy, Debug, PartialEq)]
 pub enum Shown {
     Tenths(f64),
     NoRoute,
+    Refused(u8),
 }
 
 // What is shown of a station that has this time.
 fn of_time(time: u32) -> Shown
-    ensures value { shown_in (Ok result) ≡ inside (answer_by accepted time) }
+    ensures value { result ≡ inside (answer_by accepted time) }
 {
     if time < NO_TIME {
         return Shown::Tenths(time as f64);
@@ -32,29 +34,30 @@ fn of_time(time: u32) -> Shown
 }
 
 // What is shown of a station that the map does not have: 1 to 5, or else 6.
-fn no_such_station(image: &[u8]) -> Result<Shown, Refusal>
-    ensures value { shown_in result ≡ inside
-        (answer_by (after_heading (heading_check image.now) (refused 6 nowhere)) 0) }
+fn no_such_station(image: &[u8]) -> Shown
+    ensures value { result ≡ inside (answer_by (after_heading (heading_check image.now) (refused 6 nowhere)) 0) }
 {
-    check_heading(image)?;
-    Err(Refusal::Source)
+    match check_heading(image) {
+        Ok(()) => Shown::Refused(Refusal::Source.number()),
+        Err(refusal) => Shown::Refused(refusal.number()),
+    }
 }
 
 // What is shown of a station that the map has: its time or no route, or the refusal of the search.
-fn on_map(image: &[u8], source: u16, strip: u16, station: u16) -> Result<Shown, Refusal>
+fn on_map(image: &[u8], source: u16, strip: u16, station: u16) -> Shown
     requires inside { station < station_count image.now }
-    ensures value { shown_in result ≡ inside (answer_to (asked image.now source strip) station) }
+    ensures value { result ≡ inside (answer_to (asked image.now source strip) station) }
 {
     let mut times = [0u32; TABLE];
     match df_times(image, source, strip, &mut times) {
-        Ok(_) => Ok(of_time(times[station as usize])),
-        Err(down) => Err(down.refusal),
+        Ok(_) => of_time(times[station as usize]),
+        Err(down) => Shown::Refused(down.refusal.number()),
     }
 }
 
 // The time from a source to a station for a strip of a length in decimetres.
-pub fn time_to(image: &[u8], source: u16, strip: u16, station: u16) -> Result<Shown, Refusal>
-    ensures promised { InsidePromised (asked image.now source strip) station (shown_in result) }
+pub fn time_to(image: &[u8], source: u16, strip: u16, station: u16) -> Shown
+    ensures promised { InsidePromised (asked image.now source strip) station result }
 {
     if station_count(image) <= station as usize {
         return no_such_station(image);
@@ -63,12 +66,12 @@ pub fn time_to(image: &[u8], source: u16, strip: u16, station: u16) -> Result<Sh
 }
 
 // What the panel shows, as one float.
-pub fn one_float(shown: Result<Shown, Refusal>) -> f64
-    ensures value { result ≡ outside (shown_in shown) }
+pub fn one_float(shown: Shown) -> f64
+    ensures value { result ≡ outside shown }
 {
     match shown {
-        Ok(Shown::Tenths(tenths)) => tenths,
-        Ok(Shown::NoRoute) => -1.0,
-        Err(refusal) => -((100 + refusal.number() as u16) as f64),
+        Shown::Tenths(tenths) => tenths,
+        Shown::NoRoute => -1.0,
+        Shown::Refused(number) => -((100 + number as u16) as f64),
     }
 }

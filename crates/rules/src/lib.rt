@@ -96,7 +96,8 @@ fn judge_limited(size: usize, after: usize, least: usize, m: Move) -> Result<Com
 
 // The command at an offset, or its fault, of whichever page the slots due and past are. The directory and its places
 // are two parameters with a clause on both: docs/DECISIONS.md names this function and read_page with what they ask. A
-// page is a slice of at most 256 bytes, and no array: `image::page_of` gives it as far as the image reaches.
+// page is a slice of at most 256 bytes, and no array: `image::page_of` gives it as far as the image reaches. What the
+// reader stands at (`past`, `due`, `after`, `least`) comes in four numbers, as each rule asks for others of them.
 #[tactic(auto, using(crate::proofs::Due::judged_end_by_slot), unfolding(crate::specs::Rules::judged_at, crate::specs::Rules::judge))]
 pub fn judged_at(
     directory: &[u8],

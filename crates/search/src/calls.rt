@@ -2,7 +2,7 @@
 // times, moves, predecessors, marks and page list, with an entry for each station at least (five slices: why, is said at
 // `reply::on_map`). What they promise is one record (specs/Promises.antt): the whole outcome, refusals too
 // (reply/specs/Reply.antt), demands 2 and 3, that every chain of predecessors ends at the source, and that a longer
-// strip is no faster.
+// strip is no faster. Image, source and strip are parameters, as C gives them; below they are an image and a `Query`.
 
 ghost use Rattle.std.specs.Prelude.{◌≡◌};
 ghost use Rattle.net.specs.Run.{search_of};

@@ -63,7 +63,8 @@ fn check_shape(size: usize, pages: usize, directory: &[u8], room: usize) -> Resu
 }
 
 // The image of the records that were taken, of which there were so many in all: 2 to 5, then 19 if not all were taken,
-// then 20, and only then is the buffer written.
+// then 20, and only then is the buffer written. `size`, `pages` and the directory come one by one from C and go one by
+// one to the heading: a struct of them would be made to be taken apart.
 pub fn finish(
     memory: &Memory,
     records: usize,

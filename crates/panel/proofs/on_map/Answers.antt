@@ -6,6 +6,7 @@ use Rattle.common.proofs.Windows.{any-default}
 use Rattle.image.specs.Image.{accepted}
 use Rattle.reply.specs.Reply.{asked, Reply}
 use Rattle.panel.proofs.Answers.{found, answer_on_map, few_on_map}
+use Rattle.panel.specs.declared.Shown.TheVariants.{Refused}
 use Rattle.panel.proofs.on_map.Goals as goal
 
 pub bounds-times-station : goal.bounds-times-station
@@ -32,8 +33,8 @@ returns-in-Ok c =
 
 pub returns-in-Err : goal.returns-in-Err
 returns-in-Err c = record {
-  value = rw (
-    answer_on_map (asked c.args.image.now c.args.source c.args.strip) _ c.requires.inside,
+  value = ap Refused c.number.ensures.value ∙ rw (
+    answer_on_map (asked c.args.image.now c.args.source c.args.strip) c.args.station c.requires.inside,
     ← c.in-Err.ensures.reply,
   );
 }
