@@ -69,6 +69,7 @@ fn count_reads(list: &[u8], pages: usize, frames: usize, distances: &[u32], thre
 // Replays a list of pages in a store of some frames, with a table of the distances between pages, row by row, and a
 // threshold: the number of reads. It refuses by 3 and 23. What C lends is five parameters; behind the refusals they are
 // one `Plant`.
+#[tactic(auto, using(crate::proofs::Fit::answered_3, crate::proofs::Fit::answered_23, crate::proofs::Fit::answered_23_too))]
 pub fn replay(
     list: &[u8],
     pages: usize,
