@@ -4,7 +4,7 @@ use Rattle.common.proofs.Ground.{◌≡◌, List, ◌∷◌, ℕ, ◌+◌, ◌/�
 use Rattle.common.proofs.Ground.{drop, drop-cons, drop_of_length-le}
 use Rattle.common.specs.Costs.{cost}
 use Rattle.cells.specs.declared.Memory.{Memory}
-use Rattle.cells.specs.Cells.{Relaxed, Room, PlacedAt}
+use Rattle.cells.specs.Cells.{Relaxed, Room}
 use Rattle.relax.specs.Visits.{Relaxing, none, more, Targets}
 use Rattle.cells.proofs.Relaxed.{relaxed_room}
 
@@ -21,9 +21,6 @@ module _ {places rows : List ℕ} {u held : ℕ} {first : Memory} where
   module _ {i : ℕ} {now : Memory} (g : Going places rows u held first i now) (h : i < length rows) where
     first_row : drop i rows ≡ get_or rows i 0 ∷ drop (i + 1) rows
     first_row = rw (add-one i) (drop-cons rows i 0 h)
-
-    pub going_target : PlacedAt places (get_or rows i 0 % 2048)
-    going_target = (rw first_row at g.targets).0
 
     pub going_more : {next : Memory}
         → Relaxed places u (get_or rows i 0 % 2048) (held + cost (get_or rows i 0 / 2048) 1) now next

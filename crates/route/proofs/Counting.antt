@@ -12,10 +12,6 @@ abbrev pub counted_from : ℕ → Chain → Option ℕ
 counted_from passed (whole route) = Some (passed + length route)
 counted_from passed broken = None
 
-counted_none : (c : Chain) → stations_of c ≡ counted_from 0 c
-counted_none (whole route) = let e : length route ≡ 0 + length route = omega arith in ap (λ n. Some n) e
-counted_none broken = refl
-
 counted_more : (passed v : ℕ) (c : Chain) → counted_from passed (lengthened c v) ≡ counted_from (passed + 1) c
 counted_more passed v (whole route) =
     let e : passed + length (route ++ v ∷ []) ≡ passed + 1 + length route = simp length-append (omega arith) in
@@ -30,16 +26,6 @@ pub record Counting (preds : List ℕ) (station v passed : ℕ) : Type 0 where
       counted_from (passed - 1) (chain preds (suc (length preds) - passed) v)
 
 module _ (preds : List ℕ) (station : ℕ) where
-  pub count-start : Counting preds station station 1
-  count-start =
-      let all : suc (length preds) - 1 ≡ length preds = omega arith in
-      let none : 1 - 1 ≡ 0 = omega arith in
-      record {
-        some = omega arith;
-        within = omega arith;
-        same = rw (all, none) (counted_none (chain preds (length preds) station));
-      }
-
   module _ (v passed before : ℕ) (inv : Counting preds station v passed) where
     pub count_end : length preds < passed → None ≡ stations_of (chain preds (length preds) station)
     unfolding chain

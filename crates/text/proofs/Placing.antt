@@ -1,18 +1,8 @@
 -- Texts placed one behind the other are one text placed: what a line holds after each part of it was put.
-use Rattle.common.proofs.Ground.{◌≡◌, refl, ap, sym, ◌∙◌, List, ◌++◌, append_assoc, ℕ, ◌+◌, ◌≤◌, ◌<◌, arith}
-use Rattle.common.proofs.Ground.{add-one, length, get_or, set, take, drop, length-append, take_at, take-length}
-use Rattle.common.proofs.Ground.{length-take-le, drop-append-add, drop-drop, paste, paste-suc}
+use Rattle.common.proofs.Ground.{◌≡◌, refl, ap, sym, ◌∙◌, List, ◌++◌, append_assoc, ℕ, ◌+◌, ◌≤◌, arith}
+use Rattle.common.proofs.Ground.{length, take, drop, length-append, take_at}
+use Rattle.common.proofs.Ground.{length-take-le, drop-append-add, drop-drop}
 use Rattle.common.specs.Window.{placed}
-
--- A byte more of the text.
-pub paste_more : (buffer : List ℕ) (at : ℕ) (text now : List ℕ) (i : ℕ) → at + i < length buffer → i < length text
-    → now ≡ paste buffer at text i → set now (at + i) (get_or text i 0) ≡ paste buffer at text (i + 1)
-paste_more buffer at text now i inside more e = rw (e, add-one) (paste-suc buffer at text i 0 inside more)
-
--- The whole text.
-pub paste_all : (buffer : List ℕ) (at : ℕ) (text now : List ℕ) (i : ℕ) → i ≡ length text
-    → now ≡ paste buffer at text i → now ≡ placed buffer at text
-paste_all buffer at text now i end e = e ∙ rw (end, take-length)
 
 -- The place behind a text that is placed.
 length_before : (buffer text : List ℕ) (at : ℕ) → at ≤ length buffer

@@ -1,9 +1,6 @@
-use Rattle.route.proofs.Counting.{count-start, count_end, count_source, count_lost, count_onward}
+use Rattle.route.proofs.Counting.{count_end, count_source, count_lost, count_onward}
 use Rattle.common.proofs.Ground.{arith}
 use Rattle.route.proofs.count_stations.Goals as goal
-
-pub loop-passed-init : goal.loop-passed-init
-loop-passed-init c = count-start _ _
 
 pub returns-then-before : goal.returns-then-before
 returns-then-before c = record {
