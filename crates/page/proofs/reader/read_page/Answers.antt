@@ -133,12 +133,6 @@ begin_row-requires c =
       entry = omega (arith, here.room, l.enough.room);
     }
 
-pub overflow_add-due : goal.overflow_add-due
-overflow_add-due c =
-    let l = c.loop-m.invariant.1 _ c.page.invariant in
-    let most = l.placed.most (c.args.p + 1) (omega (arith, l.enough.room.page)) in
-    omega (arith, l.due_slot.high, l.placed.few, most)
-
 pub overflow_add-after : goal.overflow_add-after
 overflow_add-after c =
     let l = c.loop-m.invariant.1 _ c.page.invariant in

@@ -5,9 +5,6 @@ use Rattle.std.proofs.lemmas.Result.{err_from_is_err_and}
 use Rattle.reply.specs.Reply.{searched}
 use Rattle.search.proofs.calls.search.Goals as goal
 
-pub on_map-requires : goal.on_map-requires
-on_map-requires c = record { passed = sym c.in_ok-check_call.ensures.outcome }
-
 pub returns-in_err-check_call : goal.returns-in_err-check_call
 unfolding searched
 returns-in_err-check_call c =
