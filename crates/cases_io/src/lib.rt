@@ -7,7 +7,8 @@
 
 #![tactic(auto)]
 
-ghost use Rattle.std.specs.Prelude.{◌<◌};
+ghost use Rattle.std.specs.Prelude.{◌≡◌, ◌<◌, ◌≤◌, length, slice_set};
+ghost use Rattle.image.specs.Bytes.{part};
 
 use image::bytes::part_of;
 use image::{BadPage, Refusal};
@@ -42,7 +43,9 @@ impl Part {
     }
 
     // It, as far as the bytes reach.
-    pub fn of(self, bytes: &[u8]) -> &[u8] {
+    pub fn of(self, bytes: &[u8]) -> &[u8]
+        ensures part { result.now ≡ part bytes.now self.from self.count }
+    {
         part_of(bytes, self.from as usize, self.count as usize)
     }
 }
@@ -74,7 +77,9 @@ pub fn bytes_at<const N: usize>(s: &[u8], at: usize) -> [u8; N] {
 }
 
 // Reads until the buffer is full or the input ends, and says how many bytes were read.
-pub fn read<R: Input>(rt: &R, buffer: &mut [u8]) -> usize {
+pub fn read<R: Input>(rt: &R, buffer: &mut [u8]) -> usize
+    ensures within { result ≤ length buffer.new }
+{
     read_full(&mut rt.reader(), buffer).size
 }
 
@@ -88,9 +93,12 @@ pub fn read_array<R: Input, const N: usize>(rt: &R) -> [u8; N]
 }
 
 // Sets a byte of an image, if it is there.
-pub fn put(image: &mut [u8], at: usize, value: u8) {
-    if let Some(byte) = image.get_mut(at) {
-        *byte = value;
+pub fn put(image: &mut [u8], at: usize, value: u8)
+    ensures inside { at < length image.old → image.new ≡ slice_set image.old at value }
+    ensures outside { length image.old ≤ at → image.new ≡ image.old }
+{
+    if at < image.len() {
+        image[at] = value;
     }
 }
 

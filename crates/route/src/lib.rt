@@ -26,7 +26,7 @@ pub enum RouteRefusal {
 impl RouteRefusal {
     // The refusal's number in document 01.
     pub fn number(self) -> u8
-        ensures { result ≡ number_of self }
+        ensures value { result ≡ number_of self }
     {
         match self {
             RouteRefusal::Station => 15,

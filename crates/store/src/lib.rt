@@ -33,7 +33,7 @@ pub enum ReplayRefusal {
 impl ReplayRefusal {
     // The refusal's number in document 01.
     pub fn number(self) -> u8
-        ensures { result ≡ number_of self }
+        ensures value { result ≡ number_of self }
     {
         match self {
             ReplayRefusal::PageCount => 3,

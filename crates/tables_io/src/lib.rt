@@ -4,6 +4,8 @@
 
 #![tactic(auto)]
 
+ghost use Rattle.std.specs.Prelude.{◌≡◌, ◌+◌, ◌*◌, ◌%◌};
+
 use std::fmt;
 
 // The longest table that is printed: of a longer one its first entries are.
@@ -37,7 +39,9 @@ impl<T: PartialEq + fmt::Display> fmt::Display for Runs<'_, T> {
 }
 
 // The digest with 32 bits more.
-pub fn mixed(digest: u64, bits: u32) -> u64 {
+pub fn mixed(digest: u64, bits: u32) -> u64
+    ensures value { result ≡ (digest % 4294967291 * 65599 + bits + 1) % 4294967291 }
+{
     (digest % PRIME * 65599 + u64::from(bits) + 1) % PRIME
 }
 
