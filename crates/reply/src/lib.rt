@@ -10,7 +10,7 @@ ghost use Rattle.reply.specs.Reply.{lent, reply_of, returned, six_or_seven, call
 ghost use Rattle.reply.specs.Answering.{asked_by, before_pages, reply_to};
 
 use cells::Memory;
-use engine::Ended;
+use engine::{Ended, search_in};
 use image::{Refusal, check_heading, station_count};
 use reference::Query;
 use tables::finish;
@@ -129,14 +129,11 @@ pub fn on_map(
         marks.old list.old) }
 {
     let mut memory = Memory::new();
-    let ended = engine::search(query, image, &mut memory, list);
+    let ended = search_in(query, image, &mut memory, list);
     let n = station_count(image);
-    let shown = match ended.outcome {
-        Ok(()) => Some(memory.cells()),
-        Err(_) => None,
-    };
     let reached = finish(
-        shown,
+        ended.outcome.is_ok(),
+        memory.cells(),
         &mut times[..n],
         &mut moves[..n],
         &mut preds[..n],

@@ -1,14 +1,13 @@
 -- Station by station the entries that the cells show are written, and a table all of whose entries are written is the
 -- list of these.
-use Rattle.common.proofs.Ground.{◌≡◌, refl, sym, ◌∙◌, false, dite, List, ℕ, zero, suc, ◌+◌, ◌≤◌, ◌<◌, arith}
+use Rattle.common.proofs.Ground.{◌≡◌, refl, sym, ◌∙◌, Bool, dite, List, ℕ, ◌+◌, ◌≤◌, ◌<◌, arith}
 use Rattle.common.proofs.Ground.{ℕ_discrete, add-one, length, get_or, set, replicate, length-replicate}
 use Rattle.common.proofs.Ground.{get_or-replicate, get_or-set_same, get_or-set_other, ext_get_or, ltb}
-use Rattle.common.specs.Numbers.{nobody, no_time, no_moves, no_pred}
 use Rattle.common.specs.Costs.{time_in, moves_in, no_cost}
 use Rattle.common.proofs.Windows.{any-default}
 use Rattle.net.specs.Net.{one, count}
 use Rattle.net.proofs.Basics.Count.{count-le}
-use Rattle.tables.specs.Finishing.{cost_in, pred_in, Shows, Finished}
+use Rattle.tables.specs.Finishing.{shown, cost_in, pred_in, Shows}
 
 -- One entry more is written.
 shows_more : (f : ℕ → ℕ) (n : ℕ) (table : List ℕ) → Shows f n table → n < length table
@@ -17,33 +16,29 @@ shows_more f n table s h v l = dite (ℕ_discrete v n)
     (λ same. rw same (get_or-set_same table n (f n) 0 h))
     (λ other. get_or-set_other table n v (f n) 0 other ∙ s v (omega arith))
 
--- A table that is one number throughout.
-pub shows_same : (n x : ℕ) → Shows (λ v. x) n (replicate n x)
-shows_same n x v l = get_or-replicate n v x 0 l
-
 -- The loop over the stations: so many are written, of which so many have a time.
-pub record Finishing (cells : List ℕ) (n : ℕ) (t w p : List ℕ) (r : ℕ) : Type 0 where
-  pub times : Shows (λ v. time_in (cost_in (get_or cells v 0))) n t
-  pub moves : Shows (λ v. moves_in (cost_in (get_or cells v 0))) n w
-  pub preds : Shows (λ v. pred_in (get_or cells v 0)) n p
-  pub reached : r ≡ count (λ v. ltb (cost_in (get_or cells v 0)) no_cost) n
+pub record Finishing (over : Bool) (cells : List ℕ) (n : ℕ) (t w p : List ℕ) (r : ℕ) : Type 0 where
+  pub times : Shows (λ v. time_in (cost_in (shown over (get_or cells v 0)))) n t
+  pub moves : Shows (λ v. moves_in (cost_in (shown over (get_or cells v 0)))) n w
+  pub preds : Shows (λ v. pred_in (shown over (get_or cells v 0))) n p
+  pub reached : r ≡ count (λ v. ltb (cost_in (shown over (get_or cells v 0))) no_cost) n
 
-pub finishing_none : (cells t w p : List ℕ) → Finishing cells 0 t w p 0
+pub finishing_none : (over : Bool) (cells t w p : List ℕ) → Finishing over cells 0 t w p 0
 unfolding count
-finishing_none cells t w p = record {
+finishing_none over cells t w p = record {
   times = λ v l. absurd (omega arith);
   moves = λ v l. absurd (omega arith);
   preds = λ v l. absurd (omega arith);
   reached = refl;
 }
 
-module _ {cells t w p : List ℕ} {r n : ℕ} (f : Finishing cells n t w p r) where
+module _ {over : Bool} {cells t w p : List ℕ} {r n : ℕ} (f : Finishing over cells n t w p r) where
   pub few_reached : r ≤ n
-  few_reached = omega (arith, f.reached, count-le (λ v. ltb (cost_in (get_or cells v 0)) no_cost) n)
+  few_reached = omega (arith, f.reached, count-le (λ v. ltb (cost_in (shown over (get_or cells v 0))) no_cost) n)
 
   pub finishing_more : n < length t → n < length w → n < length p
-      → let cell = get_or cells n 0 in
-      Finishing cells (n + 1) (set t n (time_in (cost_in cell))) (set w n (moves_in (cost_in cell)))
+      → let cell = shown over (get_or cells n 0) in
+      Finishing over cells (n + 1) (set t n (time_in (cost_in cell))) (set w n (moves_in (cost_in cell)))
       (set p n (pred_in cell)) (r + one (ltb (cost_in cell) no_cost))
   unfolding count
   finishing_more lt lw lp = record {
@@ -52,22 +47,6 @@ module _ {cells t w p : List ℕ} {r n : ℕ} (f : Finishing cells n t w p r) wh
     preds = shows_more _ n p f.preds lp;
     reached = rw add-one (omega (arith, f.reached));
   }
-
--- Where a bad page ended the search every cell shows nothing, and nobody is reached.
-none_reached : (cells : List ℕ) (n : ℕ) → 0 ≡ count (λ v. ltb (cost_in nobody) no_cost) n
-unfolding count
-none_reached cells zero = refl
-none_reached cells (suc n) = omega (arith, none_reached cells n)
-
-pub finished_none : (cells : List ℕ) (n : ℕ) → Finished false cells n (replicate n no_time) (replicate n no_moves)
-    (replicate n no_pred) (replicate n 0) 0
-finished_none cells n = record {
-  times = shows_same n no_time;
-  moves = shows_same n no_moves;
-  preds = shows_same n no_pred;
-  marks = shows_same n 0;
-  reached = none_reached cells n;
-}
 
 -- A table all of whose entries are shown is the list of these.
 pub shows_all : (f : ℕ → ℕ) (table target : List ℕ) (n d : ℕ) → length table ≡ n → length target ≡ n → Shows f n table

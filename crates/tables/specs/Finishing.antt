@@ -1,7 +1,6 @@
 -- For the code: what the cells of a search that has ended show. A cell holds a station's cost and predecessor
 -- (work/specs/Board.antt, `CellIs`); where a bad page ended the search, each shows nothing.
-use Rattle.std.specs.Prelude.{◌≡◌, Bool, true, false, Option, Some, None, List, ℕ, ◌/◌, ◌%◌, ◌<◌, min, get_or, ltb, eqb}
-use Rattle.std.specs.Borrow.{Bor}
+use Rattle.std.specs.Prelude.{◌≡◌, Bool, List, ℕ, ◌/◌, ◌%◌, ◌<◌, min, get_or, ltb, eqb}
 use Rattle.common.specs.Numbers.{source_mark, no_pred, nobody}
 use Rattle.common.specs.Costs.{time_in, moves_in, no_cost}
 use Rattle.common.specs.Pick.{pick}
@@ -28,8 +27,3 @@ pub record Finished (over : Bool) (cells : List ℕ) (n : ℕ) (t w p m : List �
   pub preds : Shows (λ v. pred_in (shown over (get_or cells v 0))) n p
   pub marks : Shows (λ v. 0) n m
   pub reached : r ≡ count (λ v. ltb (cost_in (shown over (get_or cells v 0))) no_cost) n
-
--- The same as the code has it: from the cells of a search that is over, or where a bad page ended it from none.
-abbrev pub FinishedBy : Option (Bor (List ℕ)) → ℕ → List ℕ → List ℕ → List ℕ → List ℕ → ℕ → Type 0
-FinishedBy (Some cells) n t w p m r = Finished true cells.now n t w p m r
-FinishedBy None n t w p m r = (cells : List ℕ) → Finished false cells n t w p m r

@@ -3,15 +3,19 @@
 
 #![tactic(auto)]
 
-ghost use Rattle.std.specs.Prelude.{◌≡◌, ◌≤◌, ◌<◌, length, set, ltb, IfSome};
+ghost use Rattle.std.specs.Prelude.{◌≡◌, ◌≤◌, ◌<◌, length, set, ltb};
 ghost use Rattle.common.specs.Costs.{time_in, moves_in, no_cost};
 ghost use Rattle.net.specs.Net.{one};
-ghost use Rattle.tables.specs.Finishing.{cost_in, pred_in, FinishedBy};
+ghost use Rattle.tables.specs.Finishing.{shown, cost_in, pred_in, Finished};
 
-use common::{NO_COST, NO_PRED, NO_TIME, SOURCE, TENTH};
+use common::{NO_COST, NO_PRED, NOBODY, SOURCE, TENTH};
 
-// The moves of a station that has no time.
-const NO_MOVES: u16 = 65535;
+// The cell that is shown of a station: its own if the search is over, nobody's if a bad page ended it.
+fn shown(over: bool, cell: u64) -> u64
+    ensures value { result ≡ shown over cell }
+{
+    if over { cell } else { NOBODY }
+}
 
 // The cost that a cell shows; one too high for a cost is none.
 fn cost_in(cell: u64) -> u64
@@ -45,33 +49,30 @@ fn pred_in(cell: u64) -> u16
 }
 
 // Writes the windows of the tables, which have an entry for each station, and answers how many stations have a time. A
-// search that a bad page ended has no cells to show: then none has.
+// search that a bad page ended has cells too, which are not shown: so the flag stands beside them, and no Option in
+// their place.
 pub fn finish(
-    shown: Option<&[u64]>,
+    over: bool,
+    cells: &[u64],
     times: &mut [u32],
     moves: &mut [u16],
     preds: &mut [u16],
     marks: &mut [u8],
 ) -> usize
-    requires cells { IfSome shown (λ cells. length times.old ≤ length cells.now) }
+    requires cells { length times.old ≤ length cells.now }
     requires sizes { (length moves.old ≡ length times.old) ×
         ((length preds.old ≡ length times.old) × (length marks.old ≡ length times.old)) }
-    ensures finished { FinishedBy shown.entry (length times.old)
+    ensures finished { Finished over cells.now (length times.old)
         times.new moves.new preds.new marks.new result }
 {
     marks.fill(0);
-    let Some(cells) = shown else {
-        times.fill(NO_TIME);
-        moves.fill(NO_MOVES);
-        preds.fill(NO_PRED);
-        return 0;
-    };
     let mut reached: usize = 0;
     for (v, time) in times.iter_mut().enumerate() {
-        *time = time_in(cells[v]);
-        moves[v] = moves_in(cells[v]);
-        preds[v] = pred_in(cells[v]);
-        reached += usize::from(cost_in(cells[v]) < NO_COST);
+        let cell = shown(over, cells[v]);
+        *time = time_in(cell);
+        moves[v] = moves_in(cell);
+        preds[v] = pred_in(cell);
+        reached += usize::from(cost_in(cell) < NO_COST);
     }
     reached
 }

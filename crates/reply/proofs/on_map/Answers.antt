@@ -1,26 +1,23 @@
 -- The engine's search ends as the definition's does; its cells are written into the first N entries of the tables, and
 -- what is handed back is the definition's (`handed_over`, proofs/Ending.antt).
-use Rattle.common.proofs.Ground.{◌≤◌, sym, arith, rules, length, take, length-take, length-take-le}
-use Rattle.std.specs.Prelude.{is_ok}
-use Rattle.tables.specs.Finishing.{Finished}
+use Rattle.common.proofs.Ground.{sym, arith, length-take, length-take-le}
 use Rattle.reply.proofs.Checking.{admitted, long_enough}
 use Rattle.reply.proofs.Searches.{size_of, few_stations}
 use Rattle.reply.proofs.Ending.{handed_over}
 use Rattle.reply.proofs.on_map.Goals as goal
-use Rattle.reply.proofs.on_map.Goals.{in-Ok, in-Err}
 
-pub search-ended-requires-clause-formed : goal.search-ended-requires-clause-formed
-search-ended-requires-clause-formed c =
+pub search_in-ended-requires-clause-formed : goal.search_in-ended-requires-clause-formed
+search_in-ended-requires-clause-formed c =
     let a = admitted _ _ c.requires.passed in
     a.heading
 
-pub search-ended-requires-clause-source : goal.search-ended-requires-clause-source
-search-ended-requires-clause-source c =
+pub search_in-ended-requires-clause-source : goal.search_in-ended-requires-clause-source
+search_in-ended-requires-clause-source c =
     let a = admitted _ _ c.requires.passed in
     rw (size_of _ _ a) a.inside
 
-pub search-ended-requires-clause-room : goal.search-ended-requires-clause-room
-search-ended-requires-clause-room c =
+pub search_in-ended-requires-clause-room : goal.search_in-ended-requires-clause-room
+search_in-ended-requires-clause-room c =
     let a = admitted _ _ c.requires.passed in
     omega (arith, size_of _ _ a, (long_enough _ _ a).4)
 
@@ -67,13 +64,15 @@ slice_bounds-finish-end-8 c =
 pub finish-reached-requires-clause-cells : goal.finish-reached-requires-clause-cells
 finish-reached-requires-clause-cells c =
     let a = admitted _ _ c.requires.passed in
-    let n = c.station_count-n.result in
-    let shorter : length (take n c.args.times.now) ≤ 2048 =
-    simp length-take (omega (arith, c.station_count-n.ensures.value, long_enough _ _ a, few_stations _ _ a, size_of _ _ a)) in
-    elim c.match-ended.branch [
-      | in-Ok w ↦ rw w.shown-is (omega (arith, shorter, w.cells.ensures.size))
-      | in-Err w ↦ rw w.shown-is (search rules)
-    ]
+    simp length-take
+    (omega (
+      arith,
+      c.station_count-n.ensures.value,
+      long_enough _ _ a,
+      few_stations _ _ a,
+      size_of _ _ a,
+      c.cells.ensures.size,
+    ))
 
 pub finish-reached-requires-clause-sizes : goal.finish-reached-requires-clause-sizes
 finish-reached-requires-clause-sizes c =
@@ -81,19 +80,10 @@ finish-reached-requires-clause-sizes c =
     (omega (arith, c.station_count-n.ensures.value, long_enough _ _ (admitted _ _ c.requires.passed)))
 
 pub returns : goal.returns
-returns c =
-    let finished : Finished (is_ok c.search-ended.result.outcome) c.search-ended.new.memory.cells
-    (length (take c.station_count-n.result c.args.times.now)) c.finish-reached.new.times c.finish-reached.new.moves
-    c.finish-reached.new.preds c.finish-reached.new.marks c.finish-reached.result =
-    elim c.match-ended.branch [
-      | in-Ok w ↦ rw w.in-Ok.is (rw (w.shown-is, w.cells.ensures.value) at c.finish-reached.ensures.finished)
-      | in-Err w ↦
-          let none = rw w.shown-is at c.finish-reached.ensures.finished in
-          rw w.in-Err.is (none c.search-ended.new.memory.cells)
-    ] in
-    record {
-      outcome = handed_over c.args.query.df _ _ (λ i. omega (arith, c.type_inv.image i))
-          (admitted _ _ c.requires.passed) _ _ _ _ _ _ _ c.station_count-n.result c.station_count-n.ensures.value
-          c.finish-reached.auto.times c.finish-reached.auto.moves c.finish-reached.auto.preds c.finish-reached.auto.marks
-          c.search-ended.result.count c.search-ended.result.outcome _ c.search-ended.ensures.ended finished c.answer_of.ensures.value;
-    }
+returns c = record {
+  outcome = handed_over c.args.query.df _ _ (λ i. omega (arith, c.type_inv.image i))
+      (admitted _ _ c.requires.passed) _ _ _ _ _ _ _ c.station_count-n.result c.station_count-n.ensures.value
+      c.finish-reached.auto.times c.finish-reached.auto.moves c.finish-reached.auto.preds c.finish-reached.auto.marks
+      c.search_in-ended.result.count c.search_in-ended.result.outcome _ c.search_in-ended.ensures.ended
+      (rw (c.is_ok.ensures.value, c.cells.ensures.value) at c.finish-reached.ensures.finished) c.answer_of.ensures.value;
+}

@@ -3,4 +3,4 @@ use Rattle.tables.proofs.Finishing.{Finishing}
 use Rattle.tables.proofs.finish.Given as goal
 
 abbrev pub invariant-loop-v : goal.invariant-loop-v
-invariant-loop-v l = Finishing l.cells l.v l.times l.moves l.preds l.reached
+invariant-loop-v l = Finishing l.over l.cells l.v l.times l.moves l.preds l.reached

@@ -6,7 +6,7 @@ use Rattle.image.specs.Image.{directory_of}
 use Rattle.layout.specs.Places.{Placed}
 use Rattle.image.proofs.Heading.{formed}
 use Rattle.engine.proofs.Beginning.{begin_asks, begun_image}
-use Rattle.engine.proofs.search.Goals as goal
+use Rattle.engine.proofs.search_in.Goals as goal
 
 pub place-requires-clause-stations : goal.place-requires-clause-stations
 place-requires-clause-stations c =
