@@ -9,7 +9,7 @@ ghost use Rattle.imaging.specs.Shaped.{Shaped, Writable};
 pub mod bytes;
 pub mod stations;
 
-use bytes::put_word;
+use bytes::{copy_at, put_word};
 use move_record::MoveRecord;
 use stations::write_pages;
 
@@ -22,7 +22,7 @@ fn write_front(size: u16, pages: u16, directory: &[u8], image: &mut [u8])
 {
     put_word(image, 0, size);
     put_word(image, 2, pages);
-    image[4..4 + directory.len()].copy_from_slice(directory);
+    copy_at(image, 4, directory);
 }
 
 // Writes the image.

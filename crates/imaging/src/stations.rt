@@ -20,9 +20,9 @@ pub const PAGE: usize = 256;
 
 // A station that was written: how many records it has, and the offset behind its bytes.
 #[derive(Clone, Copy)]
-struct Behind {
-    written: usize,
-    at: usize,
+pub struct Behind {
+    pub written: usize,
+    pub at: usize,
 }
 
 // Puts what a command begins with: its code and a station. The code is a number, as `length_of` takes it. An offset
