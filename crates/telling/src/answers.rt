@@ -175,12 +175,17 @@ impl From<Result<usize, ReplayRefusal>> for Numbers {
 }
 
 // Puts the numbers into the answer where it has four entries or more, and hands back the status.
+#[tactic(auto, using(crate::proofs::Four::put_short, crate::proofs::Four::put_four))]
 pub fn tell(n: Numbers, answer: &mut [u32]) -> u32
     requires small { Small n }
     ensures told { told result answer.new ≡ told_by n answer.old }
 {
+    // One by one: numbers that are put into an array and copied from there are waited for at each call.
     if answer.len() >= 4 {
-        answer[..4].copy_from_slice(&[n.count as u32, n.reached as u32, n.place, n.offset as u32]);
+        answer[0] = n.count as u32;
+        answer[1] = n.reached as u32;
+        answer[2] = n.place;
+        answer[3] = n.offset as u32;
     }
     n.status as u32
 }

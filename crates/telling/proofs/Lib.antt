@@ -1,0 +1,3 @@
+-- The law behind `tell`: the four numbers put into an answer.
+
+pub mod Four
