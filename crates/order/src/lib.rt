@@ -10,11 +10,13 @@ ghost use Rattle.roundtrip.specs.Records.{records_of};
 ghost use Rattle.ordering.specs.Order.{by_records, by_map, naming, lesser_of};
 ghost use Rattle.ordering.specs.Promises.{NamingPromised};
 ghost use Rattle.order.specs.Answers.{order_in, naming_in};
+ghost use Rattle.order.specs.Next.{next_order};
 
 mod passing;
 
 use by_station::Walk;
 use image::{Refusal, station_count};
+use move_record::MoveRecord;
 use passing::pass_stations;
 use std::cmp::Ordering;
 use whole::check;
@@ -24,6 +26,14 @@ use whole::check;
 pub enum OrderRefusal {
     First(Refusal),
     Second(Refusal),
+}
+
+// The order of two lists by the records that come next; a list that is over comes first, as None does.
+#[tactic(auto, using(crate::proofs::Ordered::by_next, crate::proofs::Ordered::by_records_cmp))]
+fn by_next(first: Option<MoveRecord>, second: Option<MoveRecord>) -> Ordering
+    ensures value { order_in result ≡ next_order first second }
+{
+    first.cmp(&second)
 }
 
 // The order of the records of two wholly good images of as many stations.
@@ -36,10 +46,9 @@ fn by_records(first: &[u8], second: &[u8]) -> Ordering
     let mut first = Walk::new(first);
     let mut second = Walk::new(second);
     let u = pass_stations(&mut first, &mut second);
-    // A list that is over comes first, as None does.
     let r = first.next_record(u);
     let s = second.next_record(u);
-    r.cmp(&s)
+    by_next(r, s)
 }
 
 fn by_map(first: &[u8], second: &[u8]) -> Ordering

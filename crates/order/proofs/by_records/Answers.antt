@@ -1,8 +1,6 @@
 -- Both walks begin with all records left; what they have in common is passed, and the next records decide
 -- (proofs/Walking.antt).
-use Rattle.common.proofs.Ground.{ap, sym, ◌∙◌}
-use Rattle.order.specs.Answers.{order_in}
-use Rattle.order.proofs.Ordered.{by_next}
+use Rattle.common.proofs.Ground.{sym, ◌∙◌}
 use Rattle.order.proofs.Walking.{next_decides}
 use Rattle.order.proofs.by_records.Goals as goal
 
@@ -11,7 +9,7 @@ returns c =
     let images = c.pass_stations-u.ensures.images in
     let passed = c.pass_stations-u.ensures.passed in
     record {
-      value = ap order_in c.cmp.ensures ∙ by_next _ _ ∙
+      value = c.by_next.ensures.value ∙
           next_decides _ _ _ _ _ _ c.next_record-r.result c.next_record-s.result
           (c.next_record-r.ensures.next passed.walking.first_left (rw images.0 passed.walking.first_stands))
           (c.next_record-s.ensures.next passed.walking.second_left (rw images.1 passed.walking.second_stands))
