@@ -5,5 +5,7 @@ pub mod Taken
 pub mod Counted
 -- The sums of the pages.
 pub mod Sums
+-- What an image of bytes says of its records.
+pub mod Fitting
 -- What the writer promises.
 pub mod Finished

@@ -3,13 +3,12 @@
 use Rattle.std.specs.Prelude.{◌≡◌, List, ℕ, ◌<◌, length}
 use Rattle.move_record.specs.declared.MoveRecord.{MoveRecord}
 use Rattle.writing.specs.declared.taking.Memory.{Memory}
-use Rattle.writing.specs.Taking.{Fits, taken_all}
+use Rattle.writing.specs.Taking.{taken_all}
 
--- The list of so many records, of which those that were taken are in this memory; what the type of those that are listed
--- says of their numbers; and that as many as were taken can be counted.
+-- The list of so many records, of which those that were taken are in this memory; and that as many as were taken can be
+-- counted.
 pub record Took (memory : Memory) (records size : ℕ) : Type 0 where
   pub list : List MoveRecord
   pub all : length list ≡ records
   pub taken : memory ≡ taken_all size list
-  pub fits : Fits memory.records
   pub few : memory.count < 4294967296

@@ -3,12 +3,13 @@
 
 #![tactic(auto)]
 
-ghost use Rattle.std.specs.Prelude.{◌≡◌, List, ◌<◌, length};
+ghost use Rattle.std.specs.Prelude.{◌≡◌, List, ◌<◌, ◌≤◌, length, MatchResult, Some, None};
 ghost use Rattle.image.specs.Image.{outcome_of};
 ghost use Rattle.move_record.specs.declared.MoveRecord.{MoveRecord};
 ghost use Rattle.roundtrip.specs.Written.{writing, shape_check};
 ghost use Rattle.roundtrip.specs.Promises.{WritePromised};
 ghost use Rattle.writing.specs.Answers.{outcome_of_write};
+ghost use Rattle.writing.specs.Sums.{sums_of, first_over};
 ghost use Rattle.writing.specs.Taking.{taken_all};
 ghost use Rattle.writing.specs.Took.{Took};
 ghost use Rattle.writing.specs.declared.WriteRefusal.TheVariants.{Shape};
@@ -62,6 +63,20 @@ fn check_shape(size: usize, pages: usize, directory: &[u8], room: usize) -> Resu
     Ok(())
 }
 
+// Refusal 20 of the writer: the lowest page that needs more than its bytes, if there is one.
+fn check_pages(memory: &Memory, directory: &[u8], pages: u16) -> Result<(), u8>
+    requires stations { length directory.now ≤ 2048 }
+    requires pages { pages ≤ 256 }
+    ensures full { MatchResult result
+        (λ done. first_over (sums_of memory.now.bytes directory.now) pages ≡ None)
+        (λ page. first_over (sums_of memory.now.bytes directory.now) pages ≡ Some page) }
+{
+    match first_full(&memory.bytes, directory, pages as usize) {
+        Some(page) => Err(page as u8),
+        None => Ok(()),
+    }
+}
+
 // The image of the records that were taken, of which there were so many in all: 2 to 5, then 19 if not all were taken,
 // then 20, and only then is the buffer written. `size`, `pages` and the directory come one by one from C and go one by
 // one to the heading: a struct of them would be made to be taken apart.
@@ -83,8 +98,8 @@ pub fn finish(
     if memory.count < records {
         return Err(WriteRefusal::Record(memory.count as u32));
     }
-    if let Some(page) = first_full(&memory.bytes, directory, pages as usize) {
-        return Err(WriteRefusal::Page(page as u8));
+    if let Err(page) = check_pages(memory, directory, pages) {
+        return Err(WriteRefusal::Page(page));
     }
     write_image(memory.taken(), size, pages, directory, image);
     Ok(())

@@ -2,7 +2,7 @@
 use Rattle.common.proofs.Ground.{◌≡◌, ◌<◌, refl, ap, ◌∙◌, subst, sym}
 use Rattle.writing.specs.declared.taking.Memory.{Memory}
 use Rattle.writing.specs.Taking.{taken, taken_all}
-use Rattle.writing.proofs.Taken.{empty_fits, taken_few}
+use Rattle.writing.proofs.Taken.{taken_few}
 use Rattle.records.proofs.write.Goals as goal
 
 pub finish-requires : goal.finish-requires
@@ -15,7 +15,6 @@ finish-requires c =
         list = records;
         all = refl;
         taken = all;
-        fits = c.take_all.ensures.fits (rw c.new-memory.ensures.empty empty_fits);
         few = subst (λ (m : Memory). m.count < 4294967296) (sym all) (taken_few c.args.size records);
       };
     }

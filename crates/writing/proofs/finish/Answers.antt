@@ -4,11 +4,11 @@
 use Rattle.common.proofs.Ground.{refl, subst, sym, ap, ◌∙◌, arith, length}
 use Rattle.common.proofs.Cases.{never}
 use Rattle.std.proofs.lemmas.Result.{err_from_is_err_and}
+use Rattle.image.specs.Bytes.{Bytes}
 use Rattle.image.specs.Image.{refused}
 use Rattle.roundtrip.specs.Written.{said, refused_record, refused_page, written}
 use Rattle.roundtrip.proofs.Drawable.{shape}
-use Rattle.roundtrip.proofs.Fit.{AllFit}
-use Rattle.writing.proofs.Taken.{front_fits}
+use Rattle.writing.proofs.Fitting.{written_fits}
 use Rattle.writing.proofs.Finished.{shape_refuses, bad_record, full_page, accepted_list}
 use Rattle.writing.proofs.Finished.{refusal_promised, image_promised}
 use Rattle.writing.proofs.finish.Goals as goal
@@ -35,27 +35,21 @@ returns-then-memory-records c = record {
       (λ image. refl) (λ e. never (cc));
 }
 
-pub first_full-requires : goal.first_full-requires
-first_full-requires c =
+pub check_pages-requires : goal.check_pages-requires
+check_pages-requires c =
     let most = shape c.args.size c.args.pages c.args.directory.now (length c.args.image.now)
     (sym c.in_ok-check_shape.ensures.outcome) in record {
       stations = omega arith;
       pages = omega arith;
     }
 
-pub overflow_cast-result-in-Some : goal.overflow_cast-result-in-Some
-overflow_cast-result-in-Some c =
-    let shaped = shape c.args.size c.args.pages c.args.directory.now (length c.args.image.now)
-    (sym c.in_ok-check_shape.ensures.outcome) in
-    omega (arith, c.in-Some.ensures.most)
-
-pub returns-in-Some : goal.returns-in-Some
-returns-in-Some c = record {
+pub returns-in-Err : goal.returns-in-Err
+returns-in-Err c = record {
   promised = λ list long took.
       refusal_promised c.args.size c.args.pages c.args.directory.now list c.args.image.now (refused_page 20 _)
       (full_page c.args.size c.args.memory.now list took c.args.pages c.args.directory.now
       (length c.args.image.now) (sym c.in_ok-check_shape.ensures.outcome) (omega (arith, c.if-memory-records.false))
-      _ (sym c.first_full.ensures.page ∙ c.in-Some.is))
+      _ c.in-Err.ensures.full)
       (λ image. refl) (λ e. never (cc));
 }
 
@@ -64,7 +58,7 @@ taken-requires c =
     let took = c.requires.taken in
     let ready = accepted_list c.args.size c.args.memory.now took.list took.taken c.args.pages c.args.directory.now
     (length c.args.image.now) (sym c.in_ok-check_shape.ensures.outcome) (omega (arith, took.all))
-    (sym c.first_full.ensures.page ∙ c.in_default.is) in record {
+    c.in_default.ensures.full in record {
       few = ready.few;
     }
 
@@ -73,7 +67,7 @@ write_image-requires c =
     let took = c.requires.taken in
     let ready = accepted_list c.args.size c.args.memory.now took.list took.taken c.args.pages c.args.directory.now
     (length c.args.image.now) (sym c.in_ok-check_shape.ensures.outcome) (omega (arith, took.all))
-    (sym c.first_full.ensures.page ∙ c.in_default.is) in record {
+    c.in_default.ensures.full in record {
       shaped = ready.shaped;
       writable = rw c.taken.ensures.taken ready.writable;
     }
@@ -83,9 +77,10 @@ returns c = record {
   promised = λ list long took.
       let ready = accepted_list c.args.size c.args.memory.now list took c.args.pages c.args.directory.now
       (length c.args.image.now) (sym c.in_ok-check_shape.ensures.outcome) (omega (arith, c.if-memory-records.false))
-      (sym c.first_full.ensures.page ∙ c.in_default.is) in
-      let fit : AllFit list = subst AllFit ready.list_kept (front_fits _ _ c.requires.taken.fits) in
-      image_promised c.args.size c.args.pages c.args.directory.now list c.args.image.now ready.passed fit _
-      (c.write_image.ensures.written ∙
-      ap (written c.args.size c.args.pages c.args.directory.now) (c.taken.ensures.taken ∙ ready.list_kept));
+      c.in_default.ensures.full in
+      let image = c.write_image.ensures.written ∙
+      ap (written c.args.size c.args.pages c.args.directory.now) (c.taken.ensures.taken ∙ ready.list_kept) in
+      let fit = written_fits c.args.size c.args.pages c.args.directory.now (length c.args.image.now) list ready.passed
+      (subst Bytes image (λ i. omega (arith, c.type_inv.image i))) in
+      image_promised c.args.size c.args.pages c.args.directory.now list c.args.image.now ready.passed fit _ image;
 }
