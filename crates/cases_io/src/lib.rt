@@ -12,8 +12,12 @@ ghost use Rattle.image.specs.Bytes.{part};
 
 use image::bytes::part_of;
 use image::{BadPage, Refusal};
+use output::Output;
+use std::fmt::{Display, Formatter};
 use std::{fmt, io};
-use streams::read_full;
+
+mod descriptors;
+mod output;
 
 // The longest image of a case.
 pub const BYTES: usize = 70000;
@@ -76,20 +80,48 @@ pub fn bytes_at<const N: usize>(s: &[u8], at: usize) -> [u8; N] {
     bytes
 }
 
-// Reads until the buffer is full or the input ends, and says how many bytes were read.
-pub fn read<R: Input>(rt: &R, buffer: &mut [u8]) -> usize
-    ensures within { result ≤ length buffer.new }
-{
-    read_full(&mut rt.reader(), buffer).size
+// Standard input and output of a test program. A read that fails is the input's end, and what can't be written is
+// dropped silently, so that a program goes on as if it were written. No handle of `main` does so.
+#[derive(Clone, Copy)]
+pub struct Streams;
+
+impl Streams {
+    // Reads until the buffer is full or the input ends, and says how many bytes were read.
+    pub fn read(&self, buffer: &mut [u8]) -> usize
+        ensures within { result ≤ length buffer.new }
+    {
+        descriptors::read(buffer)
+    }
+
+    // Reads so many bytes. Past the input's end they are zeros.
+    pub fn read_array<const N: usize>(&self) -> [u8; N]
+        requires size { N < 9223372036854775808 }
+    {
+        let mut bytes = [0u8; N];
+        self.read(&mut bytes);
+        bytes
+    }
 }
 
-// Reads so many bytes. Past the input's end they are zeros.
-pub fn read_array<R: Input, const N: usize>(rt: &R) -> [u8; N]
-    requires size { N < 9223372036854775808 }
-{
-    let mut bytes = [0u8; N];
-    read(rt, &mut bytes);
-    bytes
+impl Print for Streams {
+    fn print<D: Display + Drop>(&self, value: D) -> io::Result<()> {
+        let mut text = Formatter::new(Output::new());
+        let _ = text.write(value);
+        text.into_inner().flush();
+        Ok(())
+    }
+
+    fn println<D: Display + Drop>(&self, value: D) -> io::Result<()> {
+        let mut text = Formatter::new(Output::new());
+        let _ = text.writeln(value);
+        text.into_inner().flush();
+        Ok(())
+    }
+
+    fn write_all(&self, bytes: &[u8]) -> io::Result<()> {
+        descriptors::write(bytes);
+        Ok(())
+    }
 }
 
 // Sets a byte of an image, if it is there.
@@ -103,9 +135,9 @@ pub fn put(image: &mut [u8], at: usize, value: u8)
 }
 
 // Reads so many changes and makes them.
-pub fn change_bytes<R: Input + Print>(rt: &R, image: &mut [u8], changes: u8) -> io::Result<()> {
+pub fn change_bytes(rt: &Streams, image: &mut [u8], changes: u8) -> io::Result<()> {
     for _ in 0..changes {
-        let change: [u8; 5] = read_array(rt);
+        let change: [u8; 5] = rt.read_array();
         let at = u32::from_le_bytes(bytes_at(&change, 0));
         let value = change[4];
         println!(rt; "  byte {at} becomes {value}")?;
@@ -115,10 +147,10 @@ pub fn change_bytes<R: Input + Print>(rt: &R, image: &mut [u8], changes: u8) -> 
 }
 
 // Copies a label of this length to a line of its own.
-pub fn copy_label<R: Input + Print>(rt: &R, size: u8) -> io::Result<()> {
+pub fn copy_label(rt: &Streams, size: u8) -> io::Result<()> {
     let mut label = [0u8; 255];
     let label = &mut label[..usize::from(size)];
-    read(rt, label);
+    rt.read(label);
     rt.write_all(label)?;
     println!(rt; "")
 }
@@ -130,24 +162,24 @@ pub fn cut_off<T, R: Print>(rt: &R) -> io::Result<Option<T>> {
 }
 
 // Reads an image of this size into the front of the space, if that is large enough.
-pub fn read_image<'a, R: Input + Print>(
-    rt: &R,
+pub fn read_image<'a>(
+    rt: &Streams,
     space: &'a mut [u8],
     size: u32,
 ) -> io::Result<Option<&'a mut [u8]>> {
     let size = size as usize;
     let n = size.min(space.len());
     let image = &mut space[..n];
-    if read(rt, image) < size {
+    if rt.read(image) < size {
         return cut_off(rt);
     }
     Ok(Some(image))
 }
 
 // Reads the next map up to its calls, and prints its label. A map with no calls ends the input too.
-fn read_map<'a, R: Input + Print>(rt: &R, space: &'a mut [u8]) -> io::Result<Option<Map<'a>>> {
+fn read_map<'a>(rt: &Streams, space: &'a mut [u8]) -> io::Result<Option<Map<'a>>> {
     let mut head = [0u8; 7];
-    if read(rt, &mut head) == 0 {
+    if rt.read(&mut head) == 0 {
         return Ok(None);
     }
     copy_label(rt, head[0])?;
@@ -159,8 +191,8 @@ fn read_map<'a, R: Input + Print>(rt: &R, space: &'a mut [u8]) -> io::Result<Opt
 }
 
 // Reads the maps and their calls, of N bytes each, and answers each call with its map's image.
-pub fn run_cases<R: Input + Print, const N: usize, F: Fn(&mut [u8], &[u8]) -> io::Result<()>>(
-    rt: &R,
+pub fn run_cases<const N: usize, F: Fn(&mut [u8], &[u8]) -> io::Result<()>>(
+    rt: &Streams,
     space: &mut [u8],
     answer_call: F,
 ) -> io::Result<()>
@@ -172,7 +204,7 @@ pub fn run_cases<R: Input + Print, const N: usize, F: Fn(&mut [u8], &[u8]) -> io
             break;
         };
         for _ in 0..map.calls {
-            let call: [u8; N] = read_array(rt);
+            let call: [u8; N] = rt.read_array();
             answer_call(map.image, &call)?;
         }
     }

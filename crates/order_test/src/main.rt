@@ -12,7 +12,7 @@
 mod answers;
 
 use answers::Answered;
-use cases_io::{Part, change_bytes, run_cases};
+use cases_io::{Part, Streams, change_bytes, run_cases};
 use image::bytes::byte_at;
 use order::{compare, lesser};
 use std::io;
@@ -28,7 +28,7 @@ fn print_order<R: Print>(rt: &R, first: &[u8], second: &[u8]) -> io::Result<()> 
 }
 
 // Makes the changes of a call and prints its line.
-fn answer_call<R: Input + Print>(rt: &R, bytes: &mut [u8], call: &[u8]) -> io::Result<()> {
+fn answer_call(rt: &Streams, bytes: &mut [u8], call: &[u8]) -> io::Result<()> {
     change_bytes(rt, bytes, byte_at(call, 16))?;
     let first = Part::named(call, 0);
     let second = Part::named(call, 8);
@@ -37,7 +37,9 @@ fn answer_call<R: Input + Print>(rt: &R, bytes: &mut [u8], call: &[u8]) -> io::R
     print_order(rt, first.of(bytes), second.of(bytes))
 }
 
-fn main(rt: HostRuntime) -> io::Result<()> {
+fn main() {
     let mut space = [0u8; BYTES];
-    run_cases::<_, 17, _>(&rt, &mut space, |bytes, call| answer_call(&rt, bytes, call))
+    let _ = run_cases::<17, _>(&Streams, &mut space, |bytes, call| {
+        answer_call(&Streams, bytes, call)
+    });
 }

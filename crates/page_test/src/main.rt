@@ -11,7 +11,7 @@
 ghost use Rattle.image.specs.Image.{directory_of};
 ghost use Rattle.layout.specs.Places.{Placed};
 
-use cases_io::{BYTES, bytes_at, copy_label, cut_off, put, read, read_image};
+use cases_io::{BYTES, Streams, bytes_at, copy_label, cut_off, put, read_image};
 use image::bytes::byte_at;
 use image::{check_heading, directory_of, page_count};
 use layout::places::{PLACES, place};
@@ -70,16 +70,20 @@ fn sweep_byte<R: Print>(rt: &R, image: &mut [u8], at: usize) -> io::Result<()> {
     println!(rt; "  at {at}: {}", Runs(&readings))
 }
 
-// Reads one case and prints its answers, or says that there is none.
-fn run_case<R: Input + Print>(rt: &R, space: &mut [u8]) -> io::Result<Option<()>> {
+// Reads one case and prints its answers, or says that there is none. Of an image that is longer than the space nothing is
+// read.
+fn run_case(rt: &Streams, space: &mut [u8]) -> io::Result<Option<()>> {
     let mut head = [0u8; 6];
-    match read(rt, &mut head) {
+    match rt.read(&mut head) {
         0 => return Ok(None),
         1..6 => return cut_off(rt),
         _ => {}
     }
     copy_label(rt, head[1])?;
     let size = u32::from_le_bytes(bytes_at(&head, 2));
+    if space.len() < size as usize {
+        return cut_off(rt);
+    }
     let Some(image) = read_image(rt, space, size)? else {
         return Ok(None);
     };
@@ -92,12 +96,17 @@ fn run_case<R: Input + Print>(rt: &R, space: &mut [u8]) -> io::Result<Option<()>
     Ok(Some(()))
 }
 
-fn main(rt: HostRuntime) -> io::Result<()> {
-    let mut space = [0u8; BYTES];
+// Runs the cases in turn.
+fn run_cases(rt: &Streams, space: &mut [u8]) -> io::Result<()> {
     for _ in 0..u64::MAX {
-        if run_case(&rt, &mut space)?.is_none() {
+        if run_case(rt, space)?.is_none() {
             break;
         }
     }
     Ok(())
+}
+
+fn main() {
+    let mut space = [0u8; BYTES];
+    let _ = run_cases(&Streams, &mut space);
 }

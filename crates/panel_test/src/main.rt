@@ -8,15 +8,29 @@
 
 #![tactic(auto)]
 
-use cases_io::{BYTES, change_bytes, run_cases};
+use cases_io::{BYTES, Streams, change_bytes, run_cases};
 use image::bytes::{byte_at, word_at};
-use std::io;
 use std::num::f64_to_bits_with_nan;
-use tables_io::{Runs, mixed};
+use std::{fmt, io};
+use tables_io::mixed;
 use yard::yard_panel;
 
-// Room for the most stations of a call, and one more.
-const STATIONS: usize = 65536;
+// So many equal floats in turn, as text ` 4` or ` -106*2`.
+#[derive(Clone, Copy)]
+struct Run {
+    float: f64,
+    count: u32,
+}
+
+impl fmt::Display for Run {
+    fn fmt<W: fmt::Write>(&self, f: &mut fmt::Formatter<W>) -> fmt::Result {
+        match self.count {
+            0 => Ok(()),
+            1 => write!(f, " {}", self.float),
+            count => write!(f, " {}*{count}", self.float),
+        }
+    }
+}
 
 // The digest with the bits of a float.
 fn with_float(digest: u64, float: f64) -> u64 {
@@ -27,13 +41,6 @@ fn with_float(digest: u64, float: f64) -> u64 {
     )
 }
 
-// Asks for so many stations from the first one on.
-fn ask(image: &[u8], source: u16, strip: u16, first: u16, number: u16, floats: &mut [f64]) {
-    for (i, float) in (0..number).zip(floats.iter_mut()) {
-        *float = yard_panel(image, source, strip, first.wrapping_add(i));
-    }
-}
-
 // Asks for the stations of a call in turn and prints its line.
 fn print_line<R: Print>(rt: &R, image: &[u8], call: &[u8]) -> io::Result<()> {
     let source = word_at(call, 0);
@@ -41,23 +48,33 @@ fn print_line<R: Print>(rt: &R, image: &[u8], call: &[u8]) -> io::Result<()> {
     let first = word_at(call, 4);
     let number = word_at(call, 6);
     let last = (u64::from(first) + u64::from(number)).wrapping_sub(1);
-    let mut floats = [0.0; STATIONS];
-    ask(image, source, strip, first, number, &mut floats);
-    let floats = &floats[..usize::from(number)];
-    let digest = floats
-        .iter()
-        .fold(0, |digest, float| with_float(digest, *float));
     print!(rt; " from {source}, strip {strip}, stations {first} to {last}:")?;
-    println!(rt; "{}, digest {digest}", Runs(floats))
+    let mut digest = 0;
+    let mut run = Run {
+        float: 0.0,
+        count: 0,
+    };
+    for i in 0..number {
+        let float = yard_panel(image, source, strip, first.wrapping_add(i));
+        digest = with_float(digest, float);
+        if float != run.float {
+            print!(rt; "{run}")?;
+            run = Run { float, count: 0 };
+        }
+        run.count = run.count.wrapping_add(1);
+    }
+    println!(rt; "{run}, digest {digest}")
 }
 
 // Makes the changes of a call and prints its line.
-fn answer_call<R: Input + Print>(rt: &R, image: &mut [u8], call: &[u8]) -> io::Result<()> {
+fn answer_call(rt: &Streams, image: &mut [u8], call: &[u8]) -> io::Result<()> {
     change_bytes(rt, image, byte_at(call, 8))?;
     print_line(rt, image, call)
 }
 
-fn main(rt: HostRuntime) -> io::Result<()> {
+fn main() {
     let mut space = [0u8; BYTES];
-    run_cases::<_, 9, _>(&rt, &mut space, |image, call| answer_call(&rt, image, call))
+    let _ = run_cases::<9, _>(&Streams, &mut space, |image, call| {
+        answer_call(&Streams, image, call)
+    });
 }

@@ -18,7 +18,7 @@ mod answers;
 mod calls;
 mod rounds;
 
-use cases_io::{change_bytes, run_cases};
+use cases_io::{Streams, change_bytes, run_cases};
 use image::bytes::{byte_at, word_at};
 use rounds::{run_reader, run_writer};
 use std::io;
@@ -44,7 +44,7 @@ fn print_writing<R: Print>(rt: &R, call: &[u8]) -> io::Result<()> {
 }
 
 // Prints a call, makes its changes and runs it.
-fn answer_call<R: Input + Print>(rt: &R, bytes: &mut [u8], call: &[u8]) -> io::Result<()> {
+fn answer_call(rt: &Streams, bytes: &mut [u8], call: &[u8]) -> io::Result<()> {
     let is_write = byte_at(call, 12) == WRITE;
     if is_write {
         print_writing(rt, call)?;
@@ -60,7 +60,9 @@ fn answer_call<R: Input + Print>(rt: &R, bytes: &mut [u8], call: &[u8]) -> io::R
     }
 }
 
-fn main(rt: HostRuntime) -> io::Result<()> {
+fn main() {
     let mut space = [0u8; BYTES];
-    run_cases::<_, 14, _>(&rt, &mut space, |bytes, call| answer_call(&rt, bytes, call))
+    let _ = run_cases::<14, _>(&Streams, &mut space, |bytes, call| {
+        answer_call(&Streams, bytes, call)
+    });
 }

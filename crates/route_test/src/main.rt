@@ -4,7 +4,7 @@
 // tests/make_route_cases.py writes the cases and, by rules of its own, the text that this program must print.
 #![tactic(auto)]
 
-use cases_io::{read, read_array};
+use cases_io::Streams;
 use route::RouteRefusal;
 use std::io;
 
@@ -15,8 +15,8 @@ const CANARY: u16 = 43690;
 const SPACE: usize = 4096;
 
 // The next number of the input; past its end 0, which the printed line then shows.
-fn read_number<R: Input>(rt: &R) -> u16 {
-    u16::from_le_bytes(read_array(rt))
+fn read_number(rt: &Streams) -> u16 {
+    u16::from_le_bytes(rt.read_array())
 }
 
 fn print_answer<R: Print>(rt: &R, answer: Result<Option<usize>, RouteRefusal>) -> io::Result<()> {
@@ -38,9 +38,9 @@ fn run_call<R: Print>(rt: &R, preds: &[u16], station: u16, out: &mut [u16]) -> i
 }
 
 // Runs one case, and says whether to go on.
-fn run_case<R: Input + Print>(rt: &R, table: &mut [u16], space: &mut [u16]) -> io::Result<bool> {
+fn run_case(rt: &Streams, table: &mut [u16], space: &mut [u16]) -> io::Result<bool> {
     let mut head = [0u8; 2];
-    if read(rt, &mut head) < 2 {
+    if rt.read(&mut head) < 2 {
         return Ok(false);
     }
     let Some(preds) = table.get_mut(..usize::from(u16::from_le_bytes(head))) else {
@@ -59,13 +59,18 @@ fn run_case<R: Input + Print>(rt: &R, table: &mut [u16], space: &mut [u16]) -> i
     Ok(true)
 }
 
-fn main(rt: HostRuntime) -> io::Result<()> {
-    let mut table = [0u16; SPACE];
-    let mut space = [0u16; SPACE];
+// Runs the cases in turn.
+fn run_cases(rt: &Streams, table: &mut [u16], space: &mut [u16]) -> io::Result<()> {
     for _ in 0..u64::MAX {
-        if !run_case(&rt, &mut table, &mut space)? {
+        if !run_case(rt, table, space)? {
             break;
         }
     }
     Ok(())
+}
+
+fn main() {
+    let mut table = [0u16; SPACE];
+    let mut space = [0u16; SPACE];
+    let _ = run_cases(&Streams, &mut table, &mut space);
 }

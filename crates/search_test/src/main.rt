@@ -8,7 +8,7 @@
 
 #![tactic(auto)]
 
-use cases_io::{BYTES, change_bytes, run_cases};
+use cases_io::{BYTES, Streams, change_bytes, run_cases};
 use image::bytes::{byte_at, word_at};
 use searches_io::run_search;
 use std::io;
@@ -27,7 +27,7 @@ fn print_call<R: Print>(rt: &R, call: &[u8]) -> io::Result<()> {
 }
 
 // Prints a call, makes its changes and runs both searches.
-fn answer_call<R: Input + Print>(rt: &R, image: &mut [u8], call: &[u8]) -> io::Result<()> {
+fn answer_call(rt: &Streams, image: &mut [u8], call: &[u8]) -> io::Result<()> {
     print_call(rt, call)?;
     change_bytes(rt, image, byte_at(call, 14))?;
     print!(rt; "  plain: ")?;
@@ -36,7 +36,9 @@ fn answer_call<R: Input + Print>(rt: &R, image: &mut [u8], call: &[u8]) -> io::R
     run_search(rt, search::calls::df, image, call)
 }
 
-fn main(rt: HostRuntime) -> io::Result<()> {
+fn main() {
     let mut space = [0u8; BYTES];
-    run_cases::<_, 15, _>(&rt, &mut space, |image, call| answer_call(&rt, image, call))
+    let _ = run_cases::<15, _>(&Streams, &mut space, |image, call| {
+        answer_call(&Streams, image, call)
+    });
 }

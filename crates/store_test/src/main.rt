@@ -8,7 +8,7 @@
 
 #![tactic(auto)]
 
-use cases_io::{Part, bytes_at, change_bytes, run_cases};
+use cases_io::{Part, Streams, bytes_at, change_bytes, run_cases};
 use image::bytes::{byte_at, part_of};
 use std::io;
 use store::{ReplayRefusal, replay};
@@ -27,8 +27,22 @@ fn read_table(bytes: &[u8], at: u32, table: &mut [u32]) {
     }
 }
 
-// Prints a call and replays its list with its distances in a table of their number.
-fn print_call<R: Print>(rt: &R, bytes: &[u8], call: &[u8]) -> io::Result<()> {
+// Replays the list of a call with its distances in a table of their number. The table stands first in a function of its
+// own: behind other statements it would be cleared twice.
+fn replayed(bytes: &[u8], call: &[u8]) -> Result<usize, ReplayRefusal> {
+    let mut table = [0u32; ENTRIES];
+    let distances = Part::named(call, 8);
+    let table = &mut table[..(distances.count as usize).min(ENTRIES)];
+    read_table(bytes, distances.from, table);
+    let list = Part::named(call, 0).of(bytes);
+    let pages = u64::from_le_bytes(bytes_at(call, 16)) as usize;
+    let frames = u64::from_le_bytes(bytes_at(call, 24)) as usize;
+    let threshold = u32::from_le_bytes(bytes_at(call, 32));
+    replay(list, pages, frames, table, threshold)
+}
+
+// Prints a call.
+fn print_call<R: Print>(rt: &R, call: &[u8]) -> io::Result<()> {
     let list = Part::named(call, 0);
     let distances = Part::named(call, 8);
     let pages = u64::from_le_bytes(bytes_at(call, 16));
@@ -36,15 +50,7 @@ fn print_call<R: Print>(rt: &R, bytes: &[u8], call: &[u8]) -> io::Result<()> {
     let threshold = u32::from_le_bytes(bytes_at(call, 32));
     print!(rt; " list {} at {}", list.count, list.from)?;
     print!(rt; ", table {} at {}", distances.count, distances.from)?;
-    print!(rt; ", P {pages}, F {frames}, D {threshold}: ")?;
-    let mut table = [0u32; ENTRIES];
-    let table = &mut table[..(distances.count as usize).min(ENTRIES)];
-    read_table(bytes, distances.from, table);
-    let list = list.of(bytes);
-    print_answer(
-        rt,
-        replay(list, pages as usize, frames as usize, table, threshold),
-    )
+    print!(rt; ", P {pages}, F {frames}, D {threshold}: ")
 }
 
 fn print_answer<R: Print>(rt: &R, answer: Result<usize, ReplayRefusal>) -> io::Result<()> {
@@ -55,12 +61,15 @@ fn print_answer<R: Print>(rt: &R, answer: Result<usize, ReplayRefusal>) -> io::R
 }
 
 // Makes the changes of a call and prints its line.
-fn answer_call<R: Input + Print>(rt: &R, bytes: &mut [u8], call: &[u8]) -> io::Result<()> {
+fn answer_call(rt: &Streams, bytes: &mut [u8], call: &[u8]) -> io::Result<()> {
     change_bytes(rt, bytes, byte_at(call, 36))?;
-    print_call(rt, bytes, call)
+    print_call(rt, call)?;
+    print_answer(rt, replayed(bytes, call))
 }
 
-fn main(rt: HostRuntime) -> io::Result<()> {
+fn main() {
     let mut space = [0u8; BYTES];
-    run_cases::<_, 37, _>(&rt, &mut space, |bytes, call| answer_call(&rt, bytes, call))
+    let _ = run_cases::<37, _>(&Streams, &mut space, |bytes, call| {
+        answer_call(&Streams, bytes, call)
+    });
 }
