@@ -48,6 +48,27 @@ fn pred_in(cell: u64) -> u16
     NO_PRED
 }
 
+// Writes the entries of station v, and answers whether it has a time.
+fn write_station(
+    v: usize,
+    over: bool,
+    cell: u64,
+    times: &mut [u32],
+    moves: &mut [u16],
+    preds: &mut [u16],
+) -> bool
+    requires inside { (v < length times.old) × ((v < length moves.old) × (v < length preds.old)) }
+    ensures times { times.new ≡ set times.old v (time_in (cost_in (shown over cell))) }
+    ensures moves { moves.new ≡ set moves.old v (moves_in (cost_in (shown over cell))) }
+    ensures preds { preds.new ≡ set preds.old v (pred_in (shown over cell)) }
+    ensures reached { result ≡ ltb (cost_in (shown over cell)) no_cost }
+{
+    times[v] = time_in(shown(over, cell));
+    moves[v] = moves_in(shown(over, cell));
+    preds[v] = pred_in(shown(over, cell));
+    cost_in(shown(over, cell)) < NO_COST
+}
+
 // Writes the windows of the tables, which have an entry for each station, and answers how many stations have a time. A
 // search that a bad page ended has cells too, which are not shown: so the flag stands beside them, and no Option in
 // their place.
@@ -67,12 +88,8 @@ pub fn finish(
 {
     marks.fill(0);
     let mut reached: usize = 0;
-    for (v, time) in times.iter_mut().enumerate() {
-        let cell = shown(over, cells[v]);
-        *time = time_in(cell);
-        moves[v] = moves_in(cell);
-        preds[v] = pred_in(cell);
-        reached += usize::from(cost_in(cell) < NO_COST);
+    for v in 0..times.len() {
+        reached += usize::from(write_station(v, over, cells[v], times, moves, preds));
     }
     reached
 }

@@ -14,13 +14,12 @@ loop-v-init c = finishing_none _ _ _ _ _
 pub loop-v-preserved : goal.loop-v-preserved
 loop-v-preserved c =
     rw (
-      c.time_in.ensures.value,
-      c.moves_in.ensures.value,
-      c.pred_in.ensures.value,
+      c.write_station.ensures.times,
+      c.write_station.ensures.moves,
+      c.write_station.ensures.preds,
       c.from-reached.ensures,
-      c.cost_in.ensures.value,
+      c.write_station.ensures.reached,
       counts,
-      c.shown-cell.ensures.value,
     ) (finishing_more c.loop-v.invariant (omega arith) (omega arith) (omega arith))
 
 pub overflow_add-reached : goal.overflow_add-reached
