@@ -32,7 +32,7 @@
  * Stack: a call's stack use stays below 256 KiB. The most that was seen, in bytes, arguments included (`make stack` on
  * x86-64: full maps and damaged ones):
  *     yard_check 77,600    yard_plain 112,800    yard_df 112,800    yard_route 89    yard_panel 133,200
- *     yard_records 177,600    yard_write 104,232    yard_order 83,920    yard_replay 1,160
+ *     yard_records 177,600    yard_write 104,232    yard_order 83,936    yard_replay 1,160
  *
  * Each call but yard_panel returns 0 if accepted, else the refusal's number (1 to 20 and 23, but never 13); yard_panel
  * returns a double and has no answer. Where answer has four entries or more, the first four get
