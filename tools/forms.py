@@ -40,6 +40,19 @@ def closing(text, at):
     return len(text)
 
 
+def body(rest):
+    """Where the body begins, behind the clauses, which have braces too; at the `;` of a function that is only declared."""
+    at = 0
+    for found in re.finditer(r'[\[{;]', rest):
+        if found.start() < at:
+            continue
+        clause = re.search(r'^\s*(requires|ensures|ghost)\b', rest[at:found.start()], re.M)
+        if found.group() == ';' or found.group() == '{' and not clause:
+            return found.start()
+        at = closing(rest, found.start())
+    return len(rest)
+
+
 class Function:
     def __init__(self, file, text, match):
         self.file, self.name = file, match.group(2)
@@ -47,15 +60,10 @@ class Function:
         opening = text.index('(', match.end())
         behind = closing(text, opening)
         self.parameters = text[opening + 1:behind - 1]
-        # The clauses have braces too: the body's stands alone in a line, as far in as the function; with no clause it is the first.
         rest = text[behind:]
-        alone = re.search(rf'^{match.group(1)}\{{', rest, re.M)
-        first = re.search(r'\{', rest)
-        clause = first and re.search(r'^\s*(requires|ensures|ghost)\b', rest[:first.start()], re.M)
-        start = (alone if clause else first).start() if first else len(rest)
-        start = rest.index('{', start) if first else start
+        start = body(rest)
         self.contract = rest[:start]
-        self.body = rest[start:closing(rest, start)] if first else ''
+        self.body = rest[start:closing(rest, start)] if rest[start:start + 1] == '{' else ''
 
     def place(self, what):
         return f'{self.file}:{self.line}', f'{self.name}: {what}'
