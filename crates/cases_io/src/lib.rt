@@ -1,9 +1,9 @@
-// What the test programs read alike, on standard input: numbers little-endian, labels, images. What search_test,
-// panel_test, records_test, order_test and store_test read is a row of maps (in the last three, of lists and tables).
-// A map is the label's length (u8), the number of its calls (u16), the image's length (u32), the label, the image, and
-// the calls. A call is each program's own; at its end are its changes, each an offset (u32) and the byte that the image
-// has there from this call on. Labels and changes are printed as they are read. And what such programs print alike: a
-// refusal with its place.
+// What the test programs read alike, from the handle that they lend: numbers little-endian, labels, images. What
+// search_test, panel_test, records_test, order_test, store_test and handles_test read is a row of maps (in the third to
+// the fifth, of lists and tables). A map is the label's length (u8), the number of its calls (u16), the image's length
+// (u32), the label, the image, and the calls. A call is each program's own; at its end are its changes, each an offset
+// (u32) and the byte that the image has there from this call on. Labels and changes are printed as they are read. And
+// what such programs print alike: a refusal with its place.
 
 #![tactic(auto)]
 
@@ -97,9 +97,7 @@ impl Streams {
     pub fn read_array<const N: usize>(&self) -> [u8; N]
         requires size { N < 9223372036854775808 }
     {
-        let mut bytes = [0u8; N];
-        self.read(&mut bytes);
-        bytes
+        read_array(self)
     }
 }
 
@@ -124,6 +122,34 @@ impl Print for Streams {
     }
 }
 
+// What cases are read from: `Streams`, or any handle that is an `Input`, which the crate `streams` reads.
+pub trait ReadFull {
+    // Reads until the buffer is full or the input ends, and says how many bytes were read.
+    fn read_full(&self, buffer: &mut [u8]) -> usize
+        ensures within { result ≤ length buffer.new };
+}
+
+impl<R: Input> ReadFull for R {
+    fn read_full(&self, buffer: &mut [u8]) -> usize {
+        streams::read_full(&mut self.reader(), buffer).size
+    }
+}
+
+impl ReadFull for Streams {
+    fn read_full(&self, buffer: &mut [u8]) -> usize {
+        self.read(buffer)
+    }
+}
+
+// Reads so many bytes. Past the input's end they are zeros.
+fn read_array<R: ReadFull, const N: usize>(rt: &R) -> [u8; N]
+    requires size { N < 9223372036854775808 }
+{
+    let mut bytes = [0u8; N];
+    rt.read_full(&mut bytes);
+    bytes
+}
+
 // Sets a byte of an image, if it is there.
 pub fn put(image: &mut [u8], at: usize, value: u8)
     ensures inside { at < length image.old → image.new ≡ slice_set image.old at value }
@@ -135,9 +161,9 @@ pub fn put(image: &mut [u8], at: usize, value: u8)
 }
 
 // Reads so many changes and makes them.
-pub fn change_bytes(rt: &Streams, image: &mut [u8], changes: u8) -> io::Result<()> {
+pub fn change_bytes<R: ReadFull + Print>(rt: &R, image: &mut [u8], changes: u8) -> io::Result<()> {
     for _ in 0..changes {
-        let change: [u8; 5] = rt.read_array();
+        let change: [u8; 5] = read_array(rt);
         let at = u32::from_le_bytes(bytes_at(&change, 0));
         let value = change[4];
         println!(rt; "  byte {at} becomes {value}")?;
@@ -147,10 +173,10 @@ pub fn change_bytes(rt: &Streams, image: &mut [u8], changes: u8) -> io::Result<(
 }
 
 // Copies a label of this length to a line of its own.
-pub fn copy_label(rt: &Streams, size: u8) -> io::Result<()> {
+pub fn copy_label<R: ReadFull + Print>(rt: &R, size: u8) -> io::Result<()> {
     let mut label = [0u8; 255];
     let label = &mut label[..usize::from(size)];
-    rt.read(label);
+    rt.read_full(label);
     rt.write_all(label)?;
     println!(rt; "")
 }
@@ -162,24 +188,24 @@ pub fn cut_off<T, R: Print>(rt: &R) -> io::Result<Option<T>> {
 }
 
 // Reads an image of this size into the front of the space, if that is large enough.
-pub fn read_image<'a>(
-    rt: &Streams,
+pub fn read_image<'a, R: ReadFull + Print>(
+    rt: &R,
     space: &'a mut [u8],
     size: u32,
 ) -> io::Result<Option<&'a mut [u8]>> {
     let size = size as usize;
     let n = size.min(space.len());
     let image = &mut space[..n];
-    if rt.read(image) < size {
+    if rt.read_full(image) < size {
         return cut_off(rt);
     }
     Ok(Some(image))
 }
 
 // Reads the next map up to its calls, and prints its label. A map with no calls ends the input too.
-fn read_map<'a>(rt: &Streams, space: &'a mut [u8]) -> io::Result<Option<Map<'a>>> {
+fn read_map<'a, R: ReadFull + Print>(rt: &R, space: &'a mut [u8]) -> io::Result<Option<Map<'a>>> {
     let mut head = [0u8; 7];
-    if rt.read(&mut head) == 0 {
+    if rt.read_full(&mut head) == 0 {
         return Ok(None);
     }
     copy_label(rt, head[0])?;
@@ -191,8 +217,8 @@ fn read_map<'a>(rt: &Streams, space: &'a mut [u8]) -> io::Result<Option<Map<'a>>
 }
 
 // Reads the maps and their calls, of N bytes each, and answers each call with its map's image.
-pub fn run_cases<const N: usize, F: Fn(&mut [u8], &[u8]) -> io::Result<()>>(
-    rt: &Streams,
+pub fn run_cases<R: ReadFull + Print, const N: usize, F: Fn(&mut [u8], &[u8]) -> io::Result<()>>(
+    rt: &R,
     space: &mut [u8],
     answer_call: F,
 ) -> io::Result<()>
@@ -204,7 +230,7 @@ pub fn run_cases<const N: usize, F: Fn(&mut [u8], &[u8]) -> io::Result<()>>(
             break;
         };
         for _ in 0..map.calls {
-            let call: [u8; N] = rt.read_array();
+            let call: [u8; N] = read_array(rt);
             answer_call(map.image, &call)?;
         }
     }

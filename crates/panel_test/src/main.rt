@@ -74,7 +74,7 @@ fn answer_call(rt: &Streams, image: &mut [u8], call: &[u8]) -> io::Result<()> {
 
 fn main() {
     let mut space = [0u8; BYTES];
-    let _ = run_cases::<9, _>(&Streams, &mut space, |image, call| {
+    let _ = run_cases::<_, 9, _>(&Streams, &mut space, |image, call| {
         answer_call(&Streams, image, call)
     });
 }

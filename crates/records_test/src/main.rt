@@ -62,7 +62,7 @@ fn answer_call(rt: &Streams, bytes: &mut [u8], call: &[u8]) -> io::Result<()> {
 
 fn main() {
     let mut space = [0u8; BYTES];
-    let _ = run_cases::<14, _>(&Streams, &mut space, |bytes, call| {
+    let _ = run_cases::<_, 14, _>(&Streams, &mut space, |bytes, call| {
         answer_call(&Streams, bytes, call)
     });
 }
