@@ -22,6 +22,7 @@ cases: layers
 	@python3 tests/make_records_cases.py --check
 	@python3 tests/make_order_cases.py --check
 	@python3 tests/make_store_cases.py --check
+	@python3 tests/make_handles_cases.py --check
 	@python3 tests/make_coils_examples.py --check
 
 # What would look at page bytes, by the names that the sources use: a slice under another name escapes this.

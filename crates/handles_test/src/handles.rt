@@ -1,0 +1,64 @@
+// Handles by which it shows whether they are used: one that reads bytes of its own and marks what it prints, and one by
+// which nothing can be printed.
+
+use std::alloc::Allocator;
+use std::fmt::Display;
+use std::io;
+use std::io::{BufRead, Chain, Error, ErrorKind, Lines, Read};
+use std::string::String;
+
+// Reads these bytes, the first of them alone, and begins again for each buffer that is filled. Prints by another handle,
+// each text between brackets and of bytes their number.
+#[derive(Clone, Copy)]
+pub struct Marked<'a, R> {
+    pub rt: &'a R,
+    pub input: &'a [u8],
+}
+
+impl<'a, R> Input for Marked<'a, R> {
+    type Reader = Chain<&'a [u8], &'a [u8]>;
+
+    fn read_line<A: Allocator + Clone>(&self, buf: &mut String<A>) -> io::Result<usize> {
+        self.reader().read_line(buf)
+    }
+
+    fn lines<A: Allocator>(&self, alloc: A) -> Lines<Self::Reader, A> {
+        self.reader().lines(alloc)
+    }
+
+    fn reader(&self) -> Self::Reader {
+        let (first, others) = self.input.split_at(self.input.len().min(1));
+        first.chain(others)
+    }
+}
+
+impl<R: Print> Print for Marked<'_, R> {
+    fn print<D: Display + Drop>(&self, value: D) -> io::Result<()> {
+        print!(self.rt; "[{value}]")
+    }
+
+    fn println<D: Display + Drop>(&self, value: D) -> io::Result<()> {
+        println!(self.rt; "[{value}]")
+    }
+
+    fn write_all(&self, bytes: &[u8]) -> io::Result<()> {
+        print!(self.rt; "[{} bytes]", bytes.len())
+    }
+}
+
+#[derive(Clone, Copy)]
+pub struct Silent;
+
+impl Print for Silent {
+    fn print<D: Display + Drop>(&self, value: D) -> io::Result<()> {
+        self.write_all(b"")
+    }
+
+    fn println<D: Display + Drop>(&self, value: D) -> io::Result<()> {
+        self.print(value)
+    }
+
+    fn write_all(&self, bytes: &[u8]) -> io::Result<()> {
+        Err(Error::from(ErrorKind::BrokenPipe))
+    }
+}
