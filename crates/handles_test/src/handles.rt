@@ -1,14 +1,15 @@
-// Handles by which it shows whether they are used: one that reads bytes of its own and marks what it prints, and one by
-// which nothing can be printed.
+// Handles that show whether they are read and printed to: one that reads bytes of its own and marks what it prints, and
+// one by which printing fails.
 
 use std::alloc::Allocator;
+use std::cell::Cell;
 use std::fmt::Display;
 use std::io;
 use std::io::{BufRead, Chain, Error, ErrorKind, Lines, Read};
 use std::string::String;
 
-// Reads these bytes, the first of them alone, and begins again for each buffer that is filled. Prints by another handle,
-// each text between brackets and of bytes their number.
+// Reads these bytes, the first of them alone, and begins again for each buffer that is filled. Prints by another
+// handle, each text between brackets and of bytes their number.
 #[derive(Clone, Copy)]
 pub struct Marked<'a, R> {
     pub rt: &'a R,
@@ -46,10 +47,21 @@ impl<R: Print> Print for Marked<'_, R> {
     }
 }
 
-#[derive(Clone, Copy)]
-pub struct Silent;
+// Prints nothing. So many prints go well, the next one fails, and those behind it go well again.
+#[derive(Drop)]
+pub struct Failing {
+    before: Cell<u8>,
+}
 
-impl Print for Silent {
+impl Failing {
+    pub fn after(before: u8) -> Failing {
+        Failing {
+            before: Cell::new(before),
+        }
+    }
+}
+
+impl Print for Failing {
     fn print<D: Display + Drop>(&self, value: D) -> io::Result<()> {
         self.write_all(b"")
     }
@@ -59,6 +71,11 @@ impl Print for Silent {
     }
 
     fn write_all(&self, bytes: &[u8]) -> io::Result<()> {
-        Err(Error::from(ErrorKind::BrokenPipe))
+        let before = self.before.get();
+        self.before.set(before.wrapping_sub(1));
+        if before == 0 {
+            return Err(Error::from(ErrorKind::BrokenPipe));
+        }
+        Ok(())
     }
 }
